@@ -1,0 +1,9 @@
+pub mod Firsts
+pub mod Entries
+pub mod FirstLiteral
+pub mod Kept
+pub mod Parts
+pub mod Encodes
+pub mod RoundTrip
+pub mod Decodes
+pub mod Holding

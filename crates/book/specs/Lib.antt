@@ -1,0 +1,9 @@
+pub mod Program
+pub mod Format
+pub mod Layout
+pub mod Refusal
+pub mod First
+pub mod Diagnosis
+pub mod Invariant
+pub mod Counted
+pub mod Reading
