@@ -31,6 +31,19 @@ six (a ∷ b ∷ c ∷ d ∷ []) h = absurd (omega arith)
 six (a ∷ b ∷ c ∷ d ∷ e ∷ []) h = absurd (omega arith)
 six (a ∷ b ∷ c ∷ d ∷ e ∷ f ∷ xs) h = refl
 
+-- the parts of the program that the bytes hold
+pub atoms-decode : (bs : List ℕ) → decode bs .atoms ≡ atoms-in bs
+unfolding decode
+atoms-decode bs = refl
+
+pub count-decode : (bs : List ℕ) → rule-count (decode bs) ≡ rules-in bs
+unfolding decode
+count-decode bs = length-map-counting (decode-rule bs) 0 (rules-in bs)
+
+pub rule-decode : (bs : List ℕ) (k : ℕ) → k < rules-in bs → nth-rule (decode bs) k ≡ decode-rule bs k
+unfolding decode
+rule-decode bs k l = getD-map-counting (decode-rule bs) 0 (rules-in bs) k k no-rule l (zero-add k)
+
 module _ (bs : List ℕ) (long : Long bs) (places : Places bs) (claimed : Claimed bs) where
   -- the parts of a rule lie within the bytes
   positives-within : (k : ℕ) → k < rules-in bs → literal-from bs (place-at bs k + positives-at bs k) ≤ length bs
@@ -112,7 +125,7 @@ module _ (bs : List ℕ) (long : Long bs) (places : Places bs) (claimed : Claime
     pub encode-decode : 6 ≤ length bs → encode (decode bs) ≡ bs
     unfolding decode claimed-below
     encode-decode l =
-        let m = length-map-counting (decode-rule bs) 0 (rules-in bs) in
+        let m = count-decode bs in
         let t = totals (rules-in bs) 0 (zero-add (rules-in bs)) in
         let b : total (map (decode-rule bs) (counting 0 (rules-in bs))) ≡ literals-in bs = sym (zero-add _) ∙ t ∙ claimed in
         let c = entries (rules-in bs) 0 (zero-add (rules-in bs)) in
@@ -148,11 +161,9 @@ module _ (bs : List ℕ) (long : Long bs) (places : Places bs) (claimed : Claime
     pub valid-decode : Valid (decode bs)
     unfolding decode claimed-below
     valid-decode =
-        let m = length-map-counting (decode-rule bs) 0 (rules-in bs) in
+        let m = count-decode bs in
         let t = totals (rules-in bs) 0 (zero-add (rules-in bs)) in
         record {
-          proper = λ k h.
-          let l : k < rules-in bs = omega arith in
-          rw (getD-map-counting (decode-rule bs) 0 (rules-in bs) k k no-rule l (zero-add k)) (proper-rule k l);
+          proper = λ k h. let l : k < rules-in bs = omega arith in rw (rule-decode bs k l) (proper-rule k l);
           limited = record { atoms = limits .0; rules = omega (arith, limits); literals = omega (arith, limits, claimed) };
         }

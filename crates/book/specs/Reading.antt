@@ -32,3 +32,7 @@ pub record Holds (bs : List ℕ) (p : Program) : Type 0 where
 -- the bytes are the written form of no program
 abbrev pub HoldsNone : List ℕ → Type 0
 HoldsNone bs = (p : Program) → Written p bs → ⊥
+
+-- different programs have different written forms
+abbrev pub DifferentForms : Type 0
+DifferentForms = (p q : Program) → encode p ≡ encode q → p ≡ q

@@ -1,7 +1,8 @@
 // A book in use: a view of the bytes that it was read from.
 // Nobody else makes one, so what its bytes keep is tested once, when they are read.
 ghost use mathlib.Core.Path.{_≡_};
-ghost use Rattle.book.specs.Layout.{atoms-in, rules-in};
+ghost use Rattle.book.specs.Program.{rule-count};
+ghost use Rattle.book.specs.Layout.{rules-in, decode};
 ghost use Rattle.book.specs.Invariant.{Limits, Long, Heads, Places, Claimed, Literals, Ascending};
 
 mod reading;
@@ -12,7 +13,7 @@ pub struct Book<'a> {
     bytes: &'a [u8],
     atoms: usize,
     rules: usize,
-    ghost counts: { (atoms ≡ atoms-in (bytes .now)) × (rules ≡ rules-in (bytes .now)) },
+    ghost counts: { (atoms ≡ decode (bytes .now) .atoms) × (rules ≡ rule-count (decode (bytes .now))) × (rules ≡ rules-in (bytes .now)) },
     ghost limits: { Limits (bytes .now) },
     ghost long: { Long (bytes .now) },
     ghost heads: { Heads (bytes .now) },

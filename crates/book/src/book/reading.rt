@@ -3,8 +3,9 @@ ghost use mathlib.Core.Path.{_≡_};
 ghost use Rattle.std.specs.Results.{errPart, Cases};
 ghost use Rattle.std.specs.declared.option.Option.the-variants.{None};
 ghost use Rattle.book.specs.Program.{no-rules};
+ghost use Rattle.book.specs.Layout.{decode};
 ghost use Rattle.book.specs.Counted.{Counted};
-ghost use Rattle.book.specs.Reading.{held, program-of, Holds, HoldsNone};
+ghost use Rattle.book.specs.Reading.{held, program-of, Holds, HoldsNone, DifferentForms};
 ghost use Rattle.book.specs.Diagnosis.{layout-fault, diagnose};
 use crate::book::Book;
 use crate::faults::BookFault;
@@ -26,8 +27,9 @@ impl<'a> Book<'a> {
 
     // The book of bytes that have no fault, with the counts that they open with.
     fn of_layout(bytes: &'a [u8], counts: Counts) -> Book<'a>
-        requires { ⌜ Counted (now bytes) counts × (layout-fault (now bytes) ≡ None) ⌝ }
-        ensures { λ r. ⌜ held r ≡ now (bytes .entry) ⌝ }
+        requires { ⌜ Counted (now bytes) counts × (layout-fault (now bytes) ≡ None) × Holds (now bytes) (decode (now bytes)) ⌝ }
+        ensures held { λ r. ⌜ held r ≡ now (bytes .entry) ⌝ }
+        ensures holds { λ r. ⌜ Holds (now (bytes .entry)) (program-of r) ⌝ }
     {
         Book {
             bytes,
@@ -40,7 +42,9 @@ impl<'a> Book<'a> {
     // Declined, this one stays: the fault is the first in the order of the layers.
     pub fn read(&mut self, bytes: &'a [u8]) -> Result<(), BookFault>
         ensures declines { λ r. ⌜ errPart r ≡ diagnose (now (bytes .entry)) ⌝ }
+        ensures holds { λ r. ⌜ Cases r (λ _. Holds (now (bytes .entry)) (program-of (now (self .exit)))) (λ _. HoldsNone (now (bytes .entry))) ⌝ }
         ensures after { λ r. ⌜ Cases r (λ _. held (now (self .exit)) ≡ now (bytes .entry)) (λ _. now (self .exit) ≡ now (self .entry)) ⌝ }
+        ensures different { λ _. ⌜ DifferentForms ⌝ }
     {
         let counts = check_layout(bytes)?;
         *self = Book::of_layout(bytes, counts);
