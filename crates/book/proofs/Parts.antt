@@ -6,13 +6,25 @@ use native.Mathlib.Nat.{zero-add, add-zero}
 use native.Mathlib.Omega.{arith}
 use lib.ListN.{length, getD, take, drop}
 use Rattle.std.specs.shelf.Lists.{All}
-use Rattle.std.proofs.shelf.Lists.{getD-take, getD-drop, drop-drop, take-append-drop, length-take-le, length-drop}
+use Rattle.std.proofs.shelf.Lists.{getD-take, getD-drop, drop-drop, take-append-drop, length-take-le, length-drop, getD-past}
 use Rattle.std.proofs.shelf.Elements.{all-from-getD}
 use Rattle.std.proofs.shelf.Counted.{length-map-counting, getD-map-counting, fill-by-all}
 use Rattle.book.specs.Invariant.{Bytes}
 use Rattle.book.specs.Program.{ProperPart}
 use Rattle.book.specs.Format.{two, twos}
 use Rattle.book.specs.Layout.{word, words, literal-from, literal-at}
+
+-- the atoms of a part, one by one
+words-length : (xs : List ℕ) → length (words xs) ≡ length xs / 2
+unfolding words
+words-length xs = length-map-counting (λ i. word xs (2 * i)) 0 (length xs / 2)
+
+pub words-at : (xs : List ℕ) (i : ℕ) → i < length xs / 2 → getD (words xs) i 0 ≡ word xs (2 * i)
+unfolding words
+words-at xs i h = getD-map-counting (λ i. word xs (2 * i)) 0 (length xs / 2) i i 0 h (zero-add i)
+
+pub words-past : (xs : List ℕ) (i : ℕ) → length xs / 2 ≤ i → getD (words xs) i 0 ≡ 0
+words-past xs i h = getD-past (words xs) i 0 (omega (arith, words-length xs))
 
 -- the bytes of c literals from literal q on
 abbrev pub part : List ℕ → ℕ → ℕ → List ℕ
@@ -32,17 +44,11 @@ part-word bs q c i l =
     ap₂ (λ lo hi. lo + 256 * hi) x y
 
 pub length-words : (bs : List ℕ) (q c : ℕ) → literal-from bs (q + c) ≤ length bs → length (words (part bs q c)) ≡ c
-unfolding words
-length-words bs q c l =
-    let n = part-length bs q c l in
-    length-map-counting (λ i. word (part bs q c) (2 * i)) 0 (length (part bs q c) / 2) ∙ omega arith
+length-words bs q c l = let n = part-length bs q c l in words-length (part bs q c) ∙ omega arith
 
 pub getD-words : (bs : List ℕ) (q c i : ℕ) → literal-from bs (q + c) ≤ length bs → i < c → getD (words (part bs q c)) i 0 ≡ literal-at bs (q + i)
-unfolding words
 getD-words bs q c i l h =
-    let n = part-length bs q c l in
-    getD-map-counting (λ i. word (part bs q c) (2 * i)) 0 (length (part bs q c) / 2) i i 0 (omega arith) (zero-add i)
-    ∙ part-word bs q c i h
+    let n = part-length bs q c l in words-at (part bs q c) i (omega arith) ∙ part-word bs q c i h
 
 -- the atoms of a part are those of a list that has them one by one
 pub words-by : (bs : List ℕ) (q c : ℕ) (xs : List ℕ) → c ≡ length xs → literal-from bs (q + c) ≤ length bs

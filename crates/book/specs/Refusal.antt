@@ -1,6 +1,9 @@
 -- The numbers of refusals, and how a fault is carried from a field to its rule and to its book. Assumes nothing.
 use mathlib.Core.Path.{_≡_}
+use mathlib.Core.List.{List, _++_}
 use Prim.Native.Nat.{ℕ}
+use lib.Chars.{codes}
+use Rattle.std.specs.Written.{decimal}
 use Rattle.std.specs.declared.option.Option.the-variants.{Some, None}
 use Rattle.book.specs.declared.refusal.Cause.{Cause}
 use Rattle.book.specs.declared.refusal.Cause.the-variants.{Short, Limit, BookLength, Head, Place, Count, Unclaimed, Range, Order, Full, Buffer, Allowance, Value, Length}
@@ -62,3 +65,8 @@ in-rule k f = record { rule = Some k; field = f }
 
 abbrev pub in-book : RuleFault → BookFault
 in-book f = record { layer = cause-layer (f .field .cause); fault = f }
+
+-- the line that a declined book is reported by: layer, cause and byte
+abbrev pub fault-line : BookFault → List ℕ
+fault-line f =
+    codes "fault " ++ (decimal (layer-number (f .layer)) ++ (codes " " ++ (decimal (cause-number (f .fault .field .cause)) ++ (codes " " ++ decimal (f .fault .field .place)))))

@@ -15,7 +15,7 @@ use crate::refusal::Cause;
 use crate::refusal::Refusal;
 
 // The two-byte number at byte i.
-fn word_at(bytes: &[u8], i: usize) -> usize
+pub(crate) fn word_at(bytes: &[u8], i: usize) -> usize
     requires { ⌜ i + 1 < length (now bytes) ⌝ }
     ensures { λ r. ⌜ r ≡ word (now (bytes .entry)) i ⌝ }
 {

@@ -1,10 +1,12 @@
 // The fault of a book: a field's refusal inside its rule's fault inside the book's.
 ghost use mathlib.Core.Path.{_≡_};
-ghost use Rattle.book.specs.Refusal.{cause-layer, layer-number, in-no-rule, in-rule, in-book};
+ghost use Rattle.book.specs.Refusal.{cause-layer, layer-number, in-no-rule, in-rule, in-book, fault-line};
+ghost use Rattle.std.specs.declared.option.Option.the-variants.{Some};
 use crate::refusal::Cause;
 use crate::refusal::Refusal;
 use crate::refusal::RefusalDebug;
 use crate::refusal::RefusalPartialEq;
+use std::fmt;
 
 // The layers of a book, in the order in which they are read.
 #[derive(Clone, Copy, PartialEq, Eq, Debug)]
@@ -79,5 +81,16 @@ pub impl From<RuleFault> for BookFault as RuleInBook {
             layer: Layer::of(fault.field.cause),
             fault,
         }
+    }
+}
+
+pub impl fmt::Display for BookFault as BookFaultDisplay {
+    ghost shown = { λ f. Some (fault-line f) };
+
+    fn fmt<W: fmt::Write>(&self, f: &mut fmt::Formatter<W>) -> fmt::Result {
+        let layer = self.layer.number();
+        let cause = self.fault.field.cause.number();
+        let place = self.fault.field.place;
+        write!(f, "fault {layer} {cause} {place}")
     }
 }

@@ -1,16 +1,18 @@
 // The rules of a book, handed out by number.
 ghost use mathlib.Core.Path.{_≡_, refl};
 ghost use mathlib.Core.Bool.{cond};
-ghost use Prim.Native.Nat.{_<_};
+ghost use Prim.Native.Nat.{_/_, _<_, _≤_};
 ghost use lib.Dec.{ltb};
+ghost use lib.ListN.{length, getD};
 ghost use Rattle.std.specs.Results.{errPart};
 ghost use Rattle.std.specs.Vec.{made};
 ghost use Rattle.std.specs.declared.option.Option.the-variants.{Some, None};
 ghost use Rattle.book.specs.declared.refusal.Cause.the-variants.{Range};
 ghost use Rattle.book.specs.Refusal.{refuse};
 ghost use Rattle.book.specs.Program.{rule-count, nth-rule, ProperRule, Valid};
-ghost use Rattle.book.specs.Layout.{rules-in, head-at, positive-part, negative-part};
+ghost use Rattle.book.specs.Layout.{rules-in, head-at, positive-part, negative-part, words};
 ghost use Rattle.book.specs.Reading.{held, program-of, rule-of};
+use crate::bodies::word_at;
 use crate::book::Book;
 use crate::contents::entry_at;
 use crate::refusal::Cause;
@@ -89,4 +91,29 @@ impl<'a> Book<'a> {
             negatives: &self.bytes[mid..to],
         }
     }
+}
+
+// Atom i of a part of a rule, or 0 past its end.
+pub fn atom_at(part: &[u8], i: usize) -> usize
+    ensures { λ r. ⌜ r ≡ getD (words (now (part .entry))) i 0 ⌝ }
+{
+    if i >= part.len() / 2 {
+        return no_atom(part, i);
+    }
+    nth_word(part, i)
+}
+
+// Words are shut to the search, so each side of `atom_at` has its own proof.
+fn no_atom(part: &[u8], i: usize) -> usize
+    requires { ⌜ length (now part) / 2 ≤ i ⌝ }
+    ensures { λ r. ⌜ r ≡ getD (words (now (part .entry))) i 0 ⌝ }
+{
+    0
+}
+
+fn nth_word(part: &[u8], i: usize) -> usize
+    requires { ⌜ i < length (now part) / 2 ⌝ }
+    ensures { λ r. ⌜ r ≡ getD (words (now (part .entry))) i 0 ⌝ }
+{
+    word_at(part, 2 * i)
 }
