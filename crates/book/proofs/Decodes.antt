@@ -1,24 +1,20 @@
 -- Bytes without a fault are the written form of the program that they hold.
-use mathlib.Core.Path.{_≡_, refl, sym, ap, ap₂, subst, _∙_}
-use mathlib.Core.Bool.{true}
+use mathlib.Core.Path.{_≡_, refl, sym, ap, ap₂, _∙_}
 use mathlib.Core.List.{List, [], _∷_, _++_, map, append-assoc}
-use Prim.Native.Nat.{ℕ, zero, suc, _+_, _*_, _/_, _%_, _<_, _≤_}
+use Prim.Native.Nat.{ℕ, zero, suc, _+_, _*_, _<_, _≤_}
 use native.Mathlib.Nat.{zero-add, add-zero, add-assoc}
-use native.Mathlib.Numerals.{add-one}
 use native.Mathlib.Omega.{arith}
 use lib.ListN.{length, getD, take, drop}
 use Rattle.std.specs.Iters.{counting}
-use Rattle.std.specs.shelf.Lists.{All}
 use Rattle.std.proofs.shelf.Counted.{length-map-counting, getD-map-counting}
-use Rattle.std.proofs.shelf.Elements.{all-from-getD}
 use Rattle.std.proofs.shelf.Lists.{getD-drop, drop-drop, drop-all, take-append-drop, length-drop}
 use Rattle.std.proofs.shelf.Tests.{eqb-true}
-use Rattle.book.specs.Program.{ProgramRule, Program, rule-count, nth-rule, width, total, no-rule, headed, ProperPart, ProperRule, Proper, Limited, Valid}
+use Rattle.book.specs.Program.{rule-count, nth-rule, width, total, no-rule, ProperRule, Valid}
 use Rattle.book.specs.Format.{two, twos, body, flat, contents, encode}
-use Rattle.book.specs.Layout.{word, atoms-in, rules-in, literals-in, entry-from, head-at, place-at, positives-at, negatives-at, count-at, claimed-below, literal-from, literal-at, positive-part, negative-part, words, decode-rule, decode}
+use Rattle.book.specs.Layout.{atoms-in, rules-in, literals-in, entry-from, head-at, place-at, positives-at, negatives-at, count-at, claimed-below, literal-from, positive-part, negative-part, words, decode-rule, decode}
 use Rattle.book.specs.Invariant.{Limits, Long, Heads, Places, Claimed, Literals, Ascending, Bytes}
 use Rattle.book.proofs.Entries.{claimed-more}
-use Rattle.book.proofs.Parts.{part, part-length, length-words, getD-words, twos-append, two-bytes, twos-words, part-then, part-proper}
+use Rattle.book.proofs.Parts.{length-words, twos-append, two-bytes, twos-words, part-then, part-proper}
 
 -- the first six of a list
 six : (xs : List ℕ) → 6 ≤ length xs

@@ -1,14 +1,14 @@
 -- What stands where in the bytes of a book.
-use mathlib.Core.Path.{_≡_, refl, sym, ap, subst, _∙_}
-use mathlib.Core.List.{List, [], _∷_, _++_}
-use Prim.Native.Nat.{ℕ, zero, suc, _+_, _*_, _-_, _<_, _≤_, _/_, _%_}
+use mathlib.Core.Path.{_≡_, refl, sym, ap, _∙_}
+use mathlib.Core.List.{List, [], _∷_}
+use Prim.Native.Nat.{ℕ, zero, suc, _+_, _*_, _<_, _≤_, _/_, _%_}
 use native.Mathlib.Nat.{add-assoc, add-zero, zero-add, mod-add-div}
 use native.Mathlib.Omega.{arith}
 use lib.ListN.{length, getD, take, drop}
-use Rattle.std.proofs.shelf.Lists.{drop-at, drop-drop, drop-more, getD-drop, getD-append-left, getD-append-add, getD-append-right, length-append}
-use Rattle.book.specs.Layout.{word, atoms-in, rules-in, literals-in, entry-from, head-at, place-at, positives-at, negatives-at, literal-from, literal-at}
-use Rattle.book.specs.Program.{ProgramRule, Program, rule-count, width, total, no-rule}
-use Rattle.book.specs.Format.{two, twos, contents, body, flat, encode}
+use Rattle.std.proofs.shelf.Lists.{drop-at, drop-drop, drop-more, getD-drop, getD-append-left, getD-append-add, length-append}
+use Rattle.book.specs.Layout.{entry-from, head-at, place-at, positives-at, negatives-at, literal-from, literal-at}
+use Rattle.book.specs.Program.{ProgramRule, Program, width, total, no-rule}
+use Rattle.book.specs.Format.{twos, contents, body, flat, encode}
 
 pub two-word : (n : ℕ) → n % 256 + 256 * (n / 256) ≡ n
 two-word n = mod-add-div n 256

@@ -1,9 +1,8 @@
 -- Bytes are accepted exactly when they are the written form of a valid program, which is then the one that they hold.
-use mathlib.Core.Path.{_≡_, refl, sym, ap, subst, _∙_}
+use mathlib.Core.Path.{_≡_, sym, ap, subst, _∙_}
 use mathlib.Core.List.{List}
-use Prim.Native.Nat.{ℕ, _<_, _≤_}
+use Prim.Native.Nat.{ℕ, _<_}
 use native.Mathlib.Omega.{arith}
-use lib.ListN.{length}
 use Rattle.std.specs.Results.{errPart, Cases}
 use Rattle.std.specs.Vec.{made}
 use Rattle.std.specs.declared.option.Option.the-variants.{Some, None}
@@ -14,7 +13,6 @@ use Rattle.book.specs.declared.book.rules.Rule.{Rule}
 use Rattle.book.specs.declared.header.Counts.{Counts}
 use Rattle.book.specs.declared.faults.RuleFault.{RuleFault}
 use Rattle.book.specs.Program.{Program, nth-rule, ProperRule, Valid}
-use Rattle.book.specs.Format.{encode}
 use Rattle.book.specs.Layout.{rules-in, head-at, positive-part, negative-part, decode}
 use Rattle.book.specs.Invariant.{Limits, Long, Bytes}
 use Rattle.book.specs.Diagnosis.{layout-fault}

@@ -1,17 +1,17 @@
 -- Where no fault is found, the book keeps every condition.
-use mathlib.Core.Path.{_≡_, refl, sym, ap, subst, _∙_}
+use mathlib.Core.Path.{_≡_, subst}
 use mathlib.Core.Bool.{Bool, true, false, cond}
 use mathlib.Core.List.{List}
 use Prim.Native.Nat.{ℕ, zero, suc, _+_, _-_, _<_, _≤_}
 use native.Mathlib.Omega.{arith}
-use lib.Dec.{ltb, leb, eqb}
+use lib.Dec.{ltb, eqb}
 use Rattle.std.proofs.shelf.Ways.{tells}
 use Rattle.std.specs.Options.{mapped}
 use Rattle.std.specs.declared.option.Option.the-variants.{Some, None}
 use Rattle.book.specs.declared.refusal.Refusal.{Refusal}
-use Rattle.book.specs.Refusal.{in-rule, in-book, in-no-rule}
-use Rattle.book.specs.First.{first, or-else}
-use Rattle.book.specs.Layout.{atoms-in, rules-in, literals-in, head-at, place-at, positives-at, count-at, claimed-below, literal-from, literal-at}
+use Rattle.book.specs.Refusal.{in-rule, in-no-rule}
+use Rattle.book.specs.First.{first}
+use Rattle.book.specs.Layout.{atoms-in, rules-in, literals-in, place-at, positives-at, count-at, claimed-below, literal-from, literal-at}
 use Rattle.book.specs.Diagnosis.{header-fault, entries-fault, unclaimed-fault, literal-fault-of, literal-fault, body-fault, bodies-fault, layout-fault}
 use Rattle.book.specs.Invariant.{Heads, Places, Claimed, Literals, Ascending}
 use Rattle.book.proofs.Firsts.{first-none, mapped-none, or-else-none}

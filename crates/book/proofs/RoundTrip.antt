@@ -2,25 +2,23 @@
 use mathlib.Core.Path.{_≡_, refl, sym, ap, subst, _∙_}
 use mathlib.Core.Logic.{inl, inr}
 use mathlib.Core.Bool.{Bool, true, false, cond}
-use mathlib.Core.List.{List, [], _∷_, _++_, map}
-use Prim.Native.Nat.{ℕ, zero, suc, _+_, _*_, _-_, _/_, _<_, _≤_}
+use mathlib.Core.List.{List}
+use Prim.Native.Nat.{ℕ, zero, suc, _+_, _-_, _<_, _≤_}
 use native.Mathlib.Omega.{arith}
-use lib.Dec.{ltb, leb, eqb}
-use lib.ListN.{length, getD, take, drop}
+use lib.Dec.{eqb}
+use lib.ListN.{length, getD, take}
 use Rattle.std.specs.Options.{mapped}
-use Rattle.std.specs.declared.option.Option.{Option}
-use Rattle.std.specs.declared.option.Option.the-variants.{Some, None}
+use Rattle.std.specs.declared.option.Option.the-variants.{None}
 use Rattle.std.proofs.shelf.Counted.{fill-by-all}
 use Rattle.std.proofs.shelf.Elements.{all-getD}
 use Rattle.std.proofs.shelf.Lists.{getD-append-left, getD-append-right, getD-append-add, take-all}
 use Rattle.std.proofs.shelf.Tests.{cases-lt, eq-eqb}
 use Rattle.std.proofs.shelf.Ways.{tells}
-use Rattle.book.specs.Program.{ProgramRule, Program, rule-count, nth-rule, width, total, no-rule, Ascends, ProperPart, ProperRule, Valid}
+use Rattle.book.specs.Program.{ProgramRule, Program, rule-count, nth-rule, width, total, no-rule, ProperRule, Valid}
 use Rattle.book.specs.Format.{body, encode}
-use Rattle.book.specs.Refusal.{in-rule, in-no-rule, in-book}
-use Rattle.book.specs.First.{first, or-else}
-use Rattle.book.specs.Layout.{atoms-in, rules-in, literals-in, length-asked, head-at, place-at, positives-at, negatives-at, count-at, claimed-below, literal-from, literal-at, positive-part, negative-part, words, decode-rule, decode}
-use Rattle.book.specs.Diagnosis.{header-fault, entry-fault-of, entry-fault, entries-fault, unclaimed-fault-of, unclaimed-fault, literal-fault-of, literal-fault, body-fault, bodies-fault, layout-fault}
+use Rattle.book.specs.Refusal.{in-rule}
+use Rattle.book.specs.Layout.{atoms-in, rules-in, literals-in, length-asked, place-at, positives-at, negatives-at, count-at, claimed-below, literal-from, literal-at, positive-part, negative-part, words, decode-rule, decode}
+use Rattle.book.specs.Diagnosis.{header-fault, entry-fault-of, entry-fault, unclaimed-fault-of, literal-fault-of, literal-fault, body-fault, layout-fault}
 use Rattle.book.proofs.Firsts.{first-all}
 use Rattle.book.proofs.Encodes.{two-word, entry-fields, rule-literal, length-encode, total-within, total-more}
 use Rattle.book.proofs.Parts.{words-by}

@@ -1,7 +1,6 @@
 -- Where the fields of a book stand in its bytes, and the program that they hold. Assumes nothing.
 use mathlib.Core.List.{List, map}
-use mathlib.Core.Path.{_≡_}
-use Prim.Native.Nat.{ℕ, zero, suc, _+_, _*_, _/_, _≤_}
+use Prim.Native.Nat.{ℕ, zero, suc, _+_, _*_, _/_}
 use lib.ListN.{getD, length, take, drop}
 use Rattle.std.specs.Iters.{counting}
 use Rattle.book.specs.Program.{ProgramRule, Program}

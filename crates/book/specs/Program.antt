@@ -18,6 +18,10 @@ pub record Program : Type 0 where
   pub atoms : ℕ
   pub rules : List ProgramRule
 
+-- the program of n atoms and no rules
+abbrev pub no-rules : ℕ → Program
+no-rules n = record { atoms = n; rules = [] }
+
 -- the number of rules, and the rule of a number
 abbrev pub rule-count : Program → ℕ
 rule-count p = length (p .rules)
@@ -69,7 +73,3 @@ pub record Limited (p : Program) : Type 0 where
 pub record Valid (p : Program) : Type 0 where
   pub proper : Proper p
   pub limited : Limited p
-
--- the program of n atoms and no rules
-abbrev pub no-rules : ℕ → Program
-no-rules n = record { atoms = n; rules = [] }

@@ -23,7 +23,13 @@ pub(crate) fn word_at(bytes: &[u8], i: usize) -> usize
 }
 
 // Literal i of rule k, whose entry is given.
-fn check_literal(bytes: &[u8], counts: Counts, k: usize, entry: Entry, i: usize) -> Result<(), Refusal>
+fn check_literal(
+    bytes: &[u8],
+    counts: Counts,
+    k: usize,
+    entry: Entry,
+    i: usize,
+) -> Result<(), Refusal>
     requires counted { ⌜ (counts .atoms ≡ atoms-in (now bytes)) × (counts .rules ≡ rules-in (now bytes)) × (counts .rules ≤ 256) ⌝ }
     requires entry { ⌜ (entry .place ≡ place-at (now bytes) k) × (entry .positives ≡ positives-at (now bytes) k) ⌝ }
     requires within { ⌜ (entry .place + i < 2048) × (6 + 6 * counts .rules + 2 * (entry .place + i) + 2 ≤ length (now bytes)) ⌝ }

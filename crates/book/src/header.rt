@@ -9,7 +9,9 @@ use crate::refusal::Refusal;
 
 // The limits of a book.
 const MAX_ATOMS: usize = 128;
+
 const MAX_RULES: usize = 256;
+
 const MAX_LITERALS: usize = 2048;
 
 #[derive(Clone, Copy)]

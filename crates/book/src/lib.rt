@@ -2,8 +2,8 @@
 //
 // `Book::empty` is the book in hand at first, and `Book::read` puts another in its place or declines.
 // A book in use says how many atoms and rules it has, and hands out a rule by its number.
-pub mod book;
 mod bodies;
+pub mod book;
 mod contents;
 pub mod faults;
 mod header;

@@ -16,7 +16,12 @@ mod tests {
 
     const ODD_LOOP: [u8; 14] = [1, 0, 1, 0, 1, 0, 0, 0, 0, 0, 0, 1, 0, 0];
 
-    fn fault(layer: Layer, rule: Option<usize>, cause: Cause, place: usize) -> Result<(), BookFault> {
+    fn fault(
+        layer: Layer,
+        rule: Option<usize>,
+        cause: Cause,
+        place: usize,
+    ) -> Result<(), BookFault> {
         let field = Refusal::new(cause, place);
         let fault = RuleFault { rule, field };
         Err(BookFault { layer, fault })

@@ -2,6 +2,7 @@
 // A line a set says how many there were and how many came out as expected; a difference is shown by name.
 mod fields;
 mod reading;
+
 use std::error::AnyError;
 use std::fs;
 
@@ -44,7 +45,10 @@ impl Tally {
 
 fn main(rt: LibcRuntime) -> Result<(), AnyError> {
     let malformed = fs::read_to_string(&rt, "malformed.txt")?;
-    reading::declined(&rt, malformed.as_str())?.report(&rt, "books declined with the expected fault")?;
+    reading::declined(&rt, malformed.as_str())?.report(
+        &rt,
+        "books declined with the expected fault",
+    )?;
     let registers = fs::read_to_string(&rt, "registers.txt")?;
     reading::accepted(&rt, registers.as_str())?.report(&rt, "books accepted")?;
     Ok(())

@@ -60,8 +60,7 @@ impl<'a> Book<'a> {
     // What the bytes of a book in use keep makes its program valid.
     fn see_valid(&self)
         ensures { λ _. ⌜ Valid (program-of (now (self .entry))) ⌝ }
-    {
-    }
+    {}
 
     // Rule k, which the book has.
     fn rule_at(&self, k: usize) -> Rule<'a>

@@ -1,10 +1,7 @@
-use mathlib.Core.Path.{_≡_, refl, sym, ap, _∙_}
-use Prim.Native.Nat.{_≤_, _+_, _<_}
+use mathlib.Core.Path.{sym, _∙_}
 use native.Mathlib.Omega.{arith}
 use borrow.Author.Needs.{needs}
-use Rattle.std.specs.declared.option.Option.the-variants.{Some, None}
-use Rattle.book.specs.Refusal.{in-rule}
-use Rattle.book.specs.Diagnosis.{literal-fault, body-fault, bodies-fault}
+use Rattle.book.specs.Diagnosis.{literal-fault, body-fault}
 use Rattle.book.proofs.FirstLiteral.{entry-sound, body-none, body-found}
 use Rattle.book.proofs.Firsts.{first-more, first-found}
 use Rattle.book.proofs.bodies.check_bodies.Needs as need

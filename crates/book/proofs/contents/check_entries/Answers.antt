@@ -1,16 +1,14 @@
-use mathlib.Core.Path.{_≡_, refl, sym, ap, _∙_}
-use Prim.Native.Nat.{_≤_, _+_, _<_}
+use mathlib.Core.Path.{refl, sym, ap, _∙_}
 use native.Mathlib.Omega.{arith}
 use borrow.Author.Needs.{needs}
-use lib.ListN.{length, drop}
+use lib.ListN.{length}
 use Rattle.std.proofs.shelf.Lists.{take-rest, length-drop}
 use Rattle.std.proofs.shelf.Results.{err-from-errBy}
 use Rattle.std.specs.Options.{mapped}
 use Rattle.std.specs.Results.{errPart}
-use Rattle.std.specs.declared.option.Option.the-variants.{Some, None}
-use Rattle.book.specs.Refusal.{in-rule, in-no-rule}
+use Rattle.book.specs.Refusal.{in-rule}
 use Rattle.book.specs.Layout.{claimed-below, entry-from}
-use Rattle.book.specs.Diagnosis.{entry-fault, unclaimed-fault}
+use Rattle.book.specs.Diagnosis.{entry-fault}
 use Rattle.book.proofs.Entries.{contents-more, entry-same, claimed-step, entry-none}
 use Rattle.book.proofs.Firsts.{first-more, first-found, mapped-none, or-else-found}
 use Rattle.book.proofs.contents.check_entries.Needs as need

@@ -1,4 +1,3 @@
-use borrow.Author.Needs.{needs}
 use Rattle.book.proofs.Holding.{judged, different}
 use Rattle.book.proofs.layout.check_layout.Needs as need
 
