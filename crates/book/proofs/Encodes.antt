@@ -13,11 +13,11 @@ use Rattle.book.specs.Format.{twos, contents, body, flat, encode}
 pub two-word : (n : ℕ) → n % 256 + 256 * (n / 256) ≡ n
 two-word n = mod-add-div n 256
 
-length-twos : (xs : List ℕ) → length (twos xs) ≡ 2 * length xs
+pub length-twos : (xs : List ℕ) → length (twos xs) ≡ 2 * length xs
 length-twos [] = refl
 length-twos (x ∷ xs) = let h = length-twos xs in omega arith
 
-length-contents : (s : ℕ) (rs : List ProgramRule) → length (contents s rs) ≡ 6 * length rs
+pub length-contents : (s : ℕ) (rs : List ProgramRule) → length (contents s rs) ≡ 6 * length rs
 length-contents s [] = refl
 length-contents s (r ∷ rs) = let h = length-contents (s + width r) rs in omega arith
 

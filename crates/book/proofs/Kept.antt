@@ -22,7 +22,7 @@ unfolding claimed-below
 claimed-within bs zero e = omega arith
 claimed-within bs (suc k) e = let s = entry-sound bs k (suc k) (omega arith) e in omega arith
 
-literal-none : (n p : ℕ) (starts : Bool) (q a : ℕ)
+pub literal-none : (n p : ℕ) (starts : Bool) (q a : ℕ)
     → literal-fault-of n p starts q a ≡ None → (a < n) × (starts ≡ false → q < a)
 literal-none n p starts q a e = grind (arith, tells)
 

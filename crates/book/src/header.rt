@@ -4,15 +4,11 @@ ghost use Rattle.std.specs.Results.{errPart};
 ghost use Rattle.std.specs.Vec.{made};
 ghost use Rattle.book.specs.Counted.{Counted};
 ghost use Rattle.book.specs.Diagnosis.{header-fault};
+use crate::limits::MAX_ATOMS;
+use crate::limits::MAX_LITERALS;
+use crate::limits::MAX_RULES;
 use crate::refusal::Cause;
 use crate::refusal::Refusal;
-
-// The limits of a book.
-const MAX_ATOMS: usize = 128;
-
-const MAX_RULES: usize = 256;
-
-const MAX_LITERALS: usize = 2048;
 
 #[derive(Clone, Copy)]
 pub(crate) struct Counts {

@@ -8,4 +8,5 @@ mod contents;
 pub mod faults;
 mod header;
 mod layout;
+pub mod limits;
 pub mod refusal;

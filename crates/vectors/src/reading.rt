@@ -1,6 +1,6 @@
 // Books that reading declines, and books that it accepts.
-use crate::Tally;
 use crate::fields;
+use crate::tally::Tally;
 use book::book::Book;
 use book::faults::BookFault;
 use book::faults::BookFaultDisplay;

@@ -1,0 +1,17 @@
+use mathlib.Core.Path.{_≡_, sym, ap, _∙_}
+use native.Mathlib.Omega.{arith}
+use Rattle.book.specs.Layout.{words}
+use Rattle.answer.specs.Flags.{flagged}
+use Rattle.answer.proofs.Tests.{each-decides, each-fails, words-length}
+use Rattle.answer.proofs.flags.all_flagged.Needs as need
+
+pub returns-then-not-flags-atom-at : need.returns-then-not-flags-atom-at
+returns-then-not-flags-atom-at c =
+    let e = words-length (c .args .part .now) in
+    sym (each-fails (flagged (c .args .flags .now)) (words (c .args .part .now)) (c .loop-i .i) (omega arith)
+    (ap (flagged (c .args .flags .now)) (sym (c .atom-at .ensures)) ∙ c .if-not-flags-atom-at .taken))
+
+pub returns : need.returns
+returns c =
+    let e = words-length (c .args .part .now) in
+    sym (each-decides (flagged (c .args .flags .now)) (words (c .args .part .now)) .1 (λ j l. c .loop-i .inv j (omega arith)))

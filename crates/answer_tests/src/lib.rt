@@ -1,0 +1,3 @@
+// What small books pass, sheet by sheet.
+#[cfg(test)]
+mod tests;

@@ -1,0 +1,4 @@
+pub mod Puts
+pub mod Adds
+pub mod Forms
+pub mod Drafts

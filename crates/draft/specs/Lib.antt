@@ -1,0 +1,4 @@
+pub mod Form
+pub mod Adding
+pub mod Writing
+pub mod Drafting
