@@ -41,11 +41,6 @@ each-same t u xs e =
     same-from-decides (each-of t xs) (each-of u xs) (each-decides t xs)
     (decides-like (each-of u xs) (λ h i l. e i ∙ h i l) (λ h i l. sym (e i) ∙ h i l) (each-decides u xs))
 
--- the atoms of a part are half as many as its bytes
-pub words-length : (part : List ℕ) → length (words part) ≡ length part / 2
-unfolding words
-words-length part = length-map-counting _ 0 (length part / 2)
-
 -- numbers below n read at any place are below a bound that is no smaller
 pub all-below : (n m : ℕ) (xs : List ℕ) → n ≤ m → 0 < m → All (λ a. a < n) xs → (i : ℕ) → getD xs i 0 < m
 all-below n m xs l z h i =

@@ -14,7 +14,7 @@ use Rattle.book.specs.Format.{two, twos}
 use Rattle.book.specs.Layout.{word, words, literal-from, literal-at}
 
 -- the atoms of a part, one by one
-words-length : (xs : List ℕ) → length (words xs) ≡ length xs / 2
+pub words-length : (xs : List ℕ) → length (words xs) ≡ length xs / 2
 unfolding words
 words-length xs = length-map-counting (λ i. word xs (2 * i)) 0 (length xs / 2)
 

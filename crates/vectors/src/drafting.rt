@@ -1,5 +1,8 @@
 // Scripts of calls on a draft in hand, each call with its answer.
+use crate::fields;
 use crate::tally::Tally;
+use book::book::Book;
+use book::book::rules::atom_at;
 use book::refusal::Refusal;
 use draft::draft::Draft;
 use std::alloc::Global;
@@ -25,6 +28,61 @@ pub fn scripts(rt: &LibcRuntime, vectors: &str) -> Result<Tally, AnyError> {
         }
     }
     Ok(tally)
+}
+
+// NAME BOOK ..: the rules of a book, put into a draft one by one, are written as the very bytes they were read from.
+pub fn rewritten(rt: &LibcRuntime, vectors: &str) -> Result<Tally, AnyError> {
+    let mut tally = Tally::new();
+    for line in vectors.lines() {
+        let (name, rest) = fields::split(line);
+        let (text, _) = fields::split(rest);
+        let bytes = fields::bytes(rt.alloc(), text)?;
+        let again = rewrite(rt.alloc(), bytes.as_slice())?;
+        tally.note(rt, name, again.as_slice() == bytes.as_slice())?;
+    }
+    Ok(tally)
+}
+
+// The bytes of a draft of the book's rules, in a buffer as long as the book.
+fn rewrite(heap: Global, bytes: &[u8]) -> Result<Vec<u8>, AnyError> {
+    let mut book = Book::empty();
+    if book.read(bytes).is_err() {
+        return Err("a book is declined".into());
+    }
+    let draft = draft_of(heap, &book)?;
+    let mut buffer = vec![in heap; BLANK; bytes.len()]?;
+    match draft.write(buffer.as_mut_slice()) {
+        Ok(_) => Ok(buffer),
+        Err(_) => Err("a draft is not written".into()),
+    }
+}
+
+fn draft_of(heap: Global, book: &Book) -> Result<Draft, AnyError> {
+    let mut draft = Draft::new();
+    let mut kept = draft.start(book.atoms()).is_ok();
+    for k in 0..book.rules() {
+        let Ok(rule) = book.rule(k) else {
+            unreachable()
+        };
+        let positives = atoms_of(heap, rule.positives)?;
+        let negatives = atoms_of(heap, rule.negatives)?;
+        kept = kept
+            && draft
+                .add(rule.head, positives.as_slice(), negatives.as_slice())
+                .is_ok();
+    }
+    if !kept {
+        return Err("a rule is declined".into());
+    }
+    Ok(draft)
+}
+
+fn atoms_of(heap: Global, part: &[u8]) -> Result<Vec<usize>, AnyError> {
+    let mut atoms = Vec::new(heap);
+    for i in 0..part.len() / 2 {
+        atoms.push(atom_at(part, i))?;
+    }
+    Ok(atoms)
 }
 
 fn answer_of(heap: Global, draft: &mut Draft, call: &str) -> Result<String, AnyError> {

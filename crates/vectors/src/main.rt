@@ -25,6 +25,7 @@ fn main(rt: LibcRuntime) -> Result<(), AnyError> {
         &rt,
         "registers by a check of their sheets",
     )?;
+    drafting::rewritten(&rt, registers.as_str())?.report(&rt, "books written again from a draft")?;
     let drafts = fs::read_to_string(&rt, "drafts.txt")?;
     drafting::scripts(&rt, drafts.as_str())?.report(&rt, "calls of drafts")
 }

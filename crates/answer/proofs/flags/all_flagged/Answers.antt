@@ -2,7 +2,8 @@ use mathlib.Core.Path.{_≡_, sym, ap, _∙_}
 use native.Mathlib.Omega.{arith}
 use Rattle.book.specs.Layout.{words}
 use Rattle.answer.specs.Flags.{flagged}
-use Rattle.answer.proofs.Tests.{each-decides, each-fails, words-length}
+use Rattle.book.proofs.Parts.{words-length}
+use Rattle.answer.proofs.Tests.{each-decides, each-fails}
 use Rattle.answer.proofs.flags.all_flagged.Needs as need
 
 pub returns-then-not-flags-atom-at : need.returns-then-not-flags-atom-at
