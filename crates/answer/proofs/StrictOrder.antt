@@ -15,14 +15,14 @@ pub marked-low : (w : List ℕ) (a n : ℕ) → length w ≡ n → 0 < getD w a 
 marked-low w a n e h = elim (cases-lt a n) [ inl l ↦ l | inr l ↦ let z = getD-past w a 0 (omega arith) in omega arith ]
 
 -- the first place where two rows of numbers differ
-record Parts (f g : ℕ → ℕ) (n : ℕ) : Type 0 where
-  at : ℕ
-  low : at < n
-  same : (i : ℕ) → i < at → f i ≡ g i
-  differ : f at ≡ g at → ⊥
+pub record Parts (f g : ℕ → ℕ) (n : ℕ) : Type 0 where
+  pub at : ℕ
+  pub low : at < n
+  pub same : (i : ℕ) → i < at → f i ≡ g i
+  pub differ : f at ≡ g at → ⊥
 
 -- two rows are the same below n, or they differ first at some place below it
-first-difference : (f g : ℕ → ℕ) (n : ℕ) → ((i : ℕ) → i < n → f i ≡ g i) ⊎ Parts f g n
+pub first-difference : (f g : ℕ → ℕ) (n : ℕ) → ((i : ℕ) → i < n → f i ≡ g i) ⊎ Parts f g n
 first-difference f g zero = inl (λ i h. omega arith)
 first-difference f g (suc n) =
     elim (first-difference f g n) [
@@ -34,7 +34,7 @@ first-difference f g (suc n) =
     ]
 
 -- of two different sheets one is smaller
-trichotomy : (n : ℕ) (s t : List ℕ) → Sheet n s → Sheet n t → (s ≡ t) ⊎ (Smaller s t ⊎ Smaller t s)
+pub trichotomy : (n : ℕ) (s t : List ℕ) → Sheet n s → Sheet n t → (s ≡ t) ⊎ (Smaller s t ⊎ Smaller t s)
 trichotomy n s t hs ht =
     elim (first-difference (λ i. getD s i 0) (λ i. getD t i 0) n) [
       | inl e ↦ inl (ext-getD 0 s t (hs .long ∙ sym (ht .long)) (λ i h. e i (rw (hs .long) at h)))

@@ -55,7 +55,7 @@ bit-le true y f = rw (f refl) (lit≤ tt)
 bit-le false y f = omega arith
 
 -- a test that passes no more counts no more
-many-le : (t u : ℕ → Bool) (n : ℕ) → ((i : ℕ) → t i ≡ true → u i ≡ true) → how-many t n ≤ how-many u n
+pub many-le : (t u : ℕ → Bool) (n : ℕ) → ((i : ℕ) → t i ≡ true → u i ≡ true) → how-many t n ≤ how-many u n
 many-le t u zero f = lit≤ tt
 many-le t u (suc n) f = let h = many-le t u n f in let k = bit-le (t n) (u n) (f n) in omega arith
 

@@ -34,13 +34,19 @@ pub(crate) fn nth_rule<'a>(book: &Book<'a>, k: usize) -> Rule<'a>
     rule
 }
 
+// Whether the atom has its flag; past the flags none has.
+pub fn is_flagged(flags: &AtomFlags, atom: usize) -> bool
+    ensures { λ r. ⌜ r ≡ flagged (now (flags .entry)) atom ⌝ }
+{
+    if atom < MAX_ATOMS { flags[atom] } else { false }
+}
+
 // Whether every atom of a part has its flag.
-pub(crate) fn all_flagged(part: &[u8], flags: &AtomFlags) -> bool
-    requires { ⌜ ((i : ℕ) → getD (words (now part)) i 0 < 128) ⌝ }
+pub fn all_flagged(part: &[u8], flags: &AtomFlags) -> bool
     ensures { λ r. ⌜ r ≡ each-of (flagged (now (flags .entry))) (words (now (part .entry))) ⌝ }
 {
     for i in 0..part.len() / 2 {
-        if !flags[atom_at(part, i)] {
+        if !is_flagged(flags, atom_at(part, i)) {
             return false;
         }
     }

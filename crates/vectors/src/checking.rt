@@ -54,7 +54,8 @@ fn register_of(heap: Global, book: &Book, sheet: &mut [u8]) -> Result<String, An
     for _ in 0..1usize << sheet.len() {
         if passes(book, sheet) {
             count = count.saturating_add(1);
-            push_sheet(&mut listed, sheet)?;
+            listed.push(' ')?;
+            listed.push_str(fields::shown(heap, sheet)?.as_str())?;
         }
         advance(sheet);
     }
@@ -66,17 +67,6 @@ fn passes(book: &Book, sheet: &[u8]) -> bool {
         Ok(passed) => passed,
         Err(_) => false,
     }
-}
-
-fn push_sheet(register: &mut String, sheet: &[u8]) -> Result<(), AnyError> {
-    register.push(' ')?;
-    if sheet.is_empty() {
-        register.push('-')?;
-    }
-    for value in sheet {
-        register.push(if *value == 1 { '1' } else { '0' })?;
-    }
-    Ok(())
 }
 
 // The sheet after this one in the order of sheets, or the first after the last.
@@ -94,7 +84,7 @@ fn advance(sheet: &mut [u8]) {
 fn all_pass(heap: Global, book: &Book, register: &str) -> Result<bool, AnyError> {
     let mut before = Vec::new(heap);
     for (i, text) in register.split(' ').skip(1).enumerate() {
-        let sheet = sheet_of(heap, text)?;
+        let sheet = fields::digits(heap, text)?;
         if !passes(book, sheet.as_slice()) {
             return Ok(false);
         }
@@ -104,13 +94,4 @@ fn all_pass(heap: Global, book: &Book, register: &str) -> Result<bool, AnyError>
         before = sheet;
     }
     Ok(true)
-}
-
-// The digits of a sheet, one a byte.
-fn sheet_of(heap: Global, text: &str) -> Result<Vec<u8>, AnyError> {
-    let mut sheet = Vec::new(heap);
-    for digit in text.as_bytes() {
-        sheet.push(digit.wrapping_sub(b'0'))?;
-    }
-    Ok(sheet)
 }

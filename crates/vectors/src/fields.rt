@@ -29,3 +29,34 @@ pub fn bytes(heap: Global, field: &str) -> Result<Vec<u8>, AnyError> {
 pub fn split(line: &str) -> (&str, &str) {
     line.split_once(' ').unwrap_or((line, ""))
 }
+
+// The digits of a sheet or a page, one a byte; a dash stands for none.
+pub fn digits(heap: Global, field: &str) -> Result<Vec<u8>, AnyError> {
+    let mut found = Vec::new(heap);
+    if field == "-" {
+        return Ok(found);
+    }
+    for digit in field.as_bytes() {
+        found.push(digit.wrapping_sub(b'0'))?;
+    }
+    Ok(found)
+}
+
+// Bytes of one digit each as a field; a dash for none.
+pub fn shown(heap: Global, bytes: &[u8]) -> Result<String, AnyError> {
+    let mut field = String::new(heap);
+    if bytes.is_empty() {
+        field.push('-')?;
+    }
+    for byte in bytes {
+        field.push(
+            match *byte {
+                0 => '0',
+                1 => '1',
+                2 => '2',
+                _ => '?',
+            },
+        )?;
+    }
+    Ok(field)
+}

@@ -1,5 +1,6 @@
 // Runs the library on outside vectors, books and what is expected of them, and compares.
 // A line a set says how many there were and how many came out as expected; a difference is shown by name.
+mod applying;
 mod checking;
 mod drafting;
 mod fields;
@@ -25,6 +26,8 @@ fn main(rt: LibcRuntime) -> Result<(), AnyError> {
         &rt,
         "registers by a check of their sheets",
     )?;
+    let pages = fs::read_to_string(&rt, "pages.txt")?;
+    applying::pages(&rt, registers.as_str(), pages.as_str())?.report(&rt, "operators on pages")?;
     drafting::rewritten(&rt, registers.as_str())?.report(&rt, "books written again from a draft")?;
     let drafts = fs::read_to_string(&rt, "drafts.txt")?;
     drafting::scripts(&rt, drafts.as_str())?.report(&rt, "calls of drafts")

@@ -4,4 +4,4 @@ use Rattle.answer.specs.Fault.{values-fault}
 use Rattle.answer.proofs.sheet.check_values.Given as given
 
 abbrev pub Inv-loop-i : given.InvT-loop-i
-Inv-loop-i l = values-fault (l .sheet) (l .i) ≡ None
+Inv-loop-i l = values-fault (l .most) (l .bytes) (l .i) ≡ None

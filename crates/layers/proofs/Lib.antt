@@ -1,0 +1,3 @@
+pub mod Turns
+pub mod Resting
+pub mod Looking
