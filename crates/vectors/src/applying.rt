@@ -14,6 +14,8 @@ use operator::forward::Forward;
 use operator::forward::ForwardOperator;
 use operator::operator::Operator;
 use operator::operator::Verdict;
+use operator::page::IN;
+use operator::page::OUT;
 use operator::unfounded::Unfounded;
 use operator::unfounded::UnfoundedOperator;
 use std::alloc::Global;
@@ -37,6 +39,51 @@ pub fn pages(rt: &LibcRuntime, registers: &str, vectors: &str) -> Result<Tally, 
         tally.note(rt, line, got.as_str() == expected)?;
     }
     Ok(tally)
+}
+
+// NAME BOOK COUNT SHEET ..: what the two stacks make of the open page fits every sheet of the register, and a stack
+// clashes only where there is none.
+pub fn open_pages(rt: &LibcRuntime, registers: &str) -> Result<Tally, AnyError> {
+    let mut tally = Tally::new();
+    for line in registers.lines() {
+        let (name, rest) = fields::split(line);
+        let (text, register) = fields::split(rest);
+        let bytes = fields::bytes(rt.alloc(), text)?;
+        let mut book = Book::empty();
+        if book.read(bytes.as_slice()).is_err() {
+            return Err("a book is declined".into());
+        }
+        let same = stack_fits(rt.alloc(), basic(), &book, register)?;
+        tally.note(rt, name, same)?;
+        let same = stack_fits(rt.alloc(), full(), &book, register)?;
+        tally.note(rt, name, same)?;
+    }
+    Ok(tally)
+}
+
+fn stack_fits<O: Operator + Drop>(
+    heap: Global,
+    stack: O,
+    book: &Book,
+    register: &str,
+) -> Result<bool, AnyError> {
+    let mut page = vec![in heap; 0; book.atoms() + book.rules()]?;
+    match applied(stack, book, page.as_mut_slice())? {
+        Verdict::Clash => Ok(register == "0"),
+        Verdict::Marked => all_fit(heap, page.as_slice(), register),
+    }
+}
+
+fn all_fit(heap: Global, page: &[u8], register: &str) -> Result<bool, AnyError> {
+    for text in register.split(' ').skip(1) {
+        let sheet = fields::digits(heap, text)?;
+        for (mark, value) in page.iter().zip(sheet.iter()) {
+            if *mark == OUT && *value != 0 || *mark == IN && *value != 1 {
+                return Ok(false);
+            }
+        }
+    }
+    Ok(true)
 }
 
 fn book_named<'a>(registers: &'a str, wanted: &str) -> &'a str {

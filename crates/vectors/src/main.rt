@@ -28,6 +28,10 @@ fn main(rt: LibcRuntime) -> Result<(), AnyError> {
     )?;
     let pages = fs::read_to_string(&rt, "pages.txt")?;
     applying::pages(&rt, registers.as_str(), pages.as_str())?.report(&rt, "operators on pages")?;
+    applying::open_pages(&rt, registers.as_str())?.report(
+        &rt,
+        "stacks on open pages, held to the registers",
+    )?;
     drafting::rewritten(&rt, registers.as_str())?.report(&rt, "books written again from a draft")?;
     let drafts = fs::read_to_string(&rt, "drafts.txt")?;
     drafting::scripts(&rt, drafts.as_str())?.report(&rt, "calls of drafts")
