@@ -1,7 +1,7 @@
 // Layers: operators over any lawful operators, and the stacks that are made of them.
 //
 // `Sequence` applies one and then another, `UntilRest` one until it leaves the page as it was, `Lookahead` tries
-// the open objects. `basic` and `full` are the stacks, and `Nothing` derives nothing.
+// the open objects. `Basic` and `Full` are the stacks, and `Nothing` derives nothing.
 mod below;
 mod keep;
 pub mod lookahead;

@@ -4,10 +4,10 @@ use crate::tally::Tally;
 use book::book::Book;
 use layers::lookahead::Lookahead;
 use layers::lookahead::LookaheadOperator;
-use layers::sequence::SequenceOperator;
-use layers::stacks::basic;
-use layers::stacks::full;
-use layers::until_rest::UntilRestOperator;
+use layers::stacks::Basic;
+use layers::stacks::BasicOperator;
+use layers::stacks::Full;
+use layers::stacks::FullOperator;
 use operator::backward::Backward;
 use operator::backward::BackwardOperator;
 use operator::forward::Forward;
@@ -53,9 +53,9 @@ pub fn open_pages(rt: &LibcRuntime, registers: &str) -> Result<Tally, AnyError> 
         if book.read(bytes.as_slice()).is_err() {
             return Err("a book is declined".into());
         }
-        let same = stack_fits(rt.alloc(), basic(), &book, register)?;
+        let same = stack_fits(rt.alloc(), Basic, &book, register)?;
         tally.note(rt, name, same)?;
-        let same = stack_fits(rt.alloc(), full(), &book, register)?;
+        let same = stack_fits(rt.alloc(), Full, &book, register)?;
         tally.note(rt, name, same)?;
     }
     Ok(tally)
@@ -102,9 +102,9 @@ fn apply_named(operator: &str, book: &Book, page: &mut [u8]) -> Result<Verdict, 
         "forward" => applied(Forward, book, page),
         "backward" => applied(Backward, book, page),
         "unfounded" => applied(Unfounded, book, page),
-        "basic" => applied(basic(), book, page),
-        "full" => applied(full(), book, page),
-        "lookahead-basic" => applied(Lookahead { below: basic() }, book, page),
+        "basic" => applied(Basic, book, page),
+        "full" => applied(Full, book, page),
+        "lookahead-basic" => applied(Lookahead { below: Basic }, book, page),
         _ => Err("no such operator".into()),
     }
 }
