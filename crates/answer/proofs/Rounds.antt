@@ -18,7 +18,7 @@ use Rattle.answer.specs.Rounds.{Heeds, Inner, absent, Added, Went}
 use Rattle.answer.proofs.Tests.{untrue, each-mono, many-lt}
 
 -- a flag more
-set-flag : (xs : List Bool) (x a : ℕ) → x < length xs → flagged (set xs x true) a ≡ (eqb a x || flagged xs a)
+pub set-flag : (xs : List Bool) (x a : ℕ) → x < length xs → flagged (set xs x true) a ≡ (eqb a x || flagged xs a)
 set-flag xs x a l =
     elim (cases-eq a x) [
       | inl e ↦ rw (e, eq-eqb x x refl) (getD-set-same xs x true false l)
@@ -63,7 +63,7 @@ module _ (p : Program) (used : ℕ → Bool) where
       (d .0 ∙ w .0, below-more _ _ (w .1) (subst (λ ws. Heeds p used ws k) (w .0) (d .1)))
 
 -- in a row of unset flags none is set
-none-flagged : (n a : ℕ) → flagged (replicate n false) a ≡ false
+pub none-flagged : (n a : ℕ) → flagged (replicate n false) a ≡ false
 none-flagged zero a = refl
 none-flagged (suc n) zero = refl
 none-flagged (suc n) (suc a) = none-flagged n a

@@ -8,7 +8,6 @@ use native.Mathlib.Numerals.{add-one}
 use native.Mathlib.Omega.{arith}
 use lib.Dec.{eqb}
 use lib.ListN.{length, getD, set}
-use Rattle.std.proofs.shelf.Lists.{getD-set-same, getD-set-other}
 use Rattle.std.proofs.shelf.Tests.{and-parts, and-from, or-cases, or-left, or-right, eq-eqb, ne-eqb, eqb-true, cases-eq, cases-bool, both-ways, not-true, not-from-false}
 use Rattle.std.proofs.shelf.Ways.{same-from-decides}
 use Rattle.book.specs.Program.{Program, rule-count, nth-rule}
@@ -17,6 +16,7 @@ use Rattle.answer.specs.Answer.{heads}
 use Rattle.operator.specs.Page.{is-in, is-out}
 use Rattle.operator.specs.Operator.{live, only-open, last-positive, last-negative, body-is-in, body-is-out, backward-to, backward-marks}
 use Rattle.answer.proofs.Tests.{untrue, many-lt}
+use Rattle.answer.proofs.Rounds.{set-flag}
 use Rattle.operator.proofs.Booleans.{some-is, each-is, many-most}
 use Rattle.book.specs.Layout.{words}
 use Rattle.operator.specs.Parts.{met}
@@ -33,12 +33,6 @@ lone-below n p part w a h e =
     let v = and-parts (met p 0 a) (some-of (eqb a) (words part)) (u .0) in
     let (j, l, x) = some-is (λ j. eqb a (getD (words part) j 0)) (length part / 2) .0 (sym (some-words (eqb a) part) ∙ v .1) in
     let y = eqb-true a (getD (words part) j 0) x in let z = h j in omega arith
-
-set-flag : (xs : List Bool) (x a : ℕ) → x < length xs → getD (set xs x true) a false ≡ (eqb a x || getD xs a false)
-set-flag xs x a l = elim (cases-eq a x) [
-  | inl e ↦ rw (e, eq-eqb x x refl) (getD-set-same xs x true false l)
-  | inr e ↦ rw (ne-eqb a x e) (getD-set-other xs x a true false e)
-]
 
 or-assoc : (x y z : Bool) → ((x || y) || z) ≡ (x || (y || z))
 or-assoc true y z = refl

@@ -2,13 +2,11 @@
 use mathlib.Core.Path.{_≡_, refl, ap, ap₂, _∙_}
 use mathlib.Core.List.{List, [], _∷_}
 use mathlib.Core.Bool.{Bool, true, false, _&&_, _||_, not}
-use Prim.Native.Nat.{ℕ, zero, suc, _<_}
-use lib.ListN.{replicate}
+use Prim.Native.Nat.{ℕ, _<_}
 use Rattle.std.proofs.shelf.Ways.{same-from-decides}
 use Rattle.book.specs.Program.{Program, rule-count, Proper}
 use Rattle.answer.specs.Tests.{each-of, some-of}
 use Rattle.answer.specs.Answer.{inside, outside, Least}
-use Rattle.answer.specs.Flags.{flagged}
 use Rattle.answer.specs.Computed.{least-set}
 use Rattle.answer.proofs.Computing.{computed}
 use Rattle.answer.proofs.Sheets.{least-like}
@@ -20,11 +18,6 @@ least-flagged b u v t P same L a =
     let M = computed .least b u P in
     let N = least-like b v u t same L in
     same-from-decides _ _ (λ e. e, λ e. e) (M .least t (N .closed) a, N .least (inside (least-set b u)) (M .closed) a)
-
-pub none-flagged : (n a : ℕ) → flagged (replicate n false) a ≡ false
-none-flagged zero a = refl
-none-flagged (suc n) zero = refl
-none-flagged (suc n) (suc a) = none-flagged n a
 
 not-and : (x y : Bool) → not (x && y) ≡ (not x || not y)
 not-and true y = refl

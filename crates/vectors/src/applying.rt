@@ -22,7 +22,7 @@ use std::alloc::Global;
 use std::error::AnyError;
 
 // NAME OPERATOR PAGE = PAGE, or = clash; the book of the name stands among the registers.
-pub fn pages(rt: &LibcRuntime, registers: &str, vectors: &str) -> Result<Tally, AnyError> {
+pub(crate) fn pages(rt: &LibcRuntime, registers: &str, vectors: &str) -> Result<Tally, AnyError> {
     let mut tally = Tally::new();
     for line in vectors.lines() {
         let (asked, expected) = line.split_once(" = ").ok_or("no answer")?;
@@ -43,7 +43,7 @@ pub fn pages(rt: &LibcRuntime, registers: &str, vectors: &str) -> Result<Tally, 
 
 // NAME BOOK COUNT SHEET ..: what the two stacks make of the open page fits every sheet of the register, and a stack
 // clashes only where there is none.
-pub fn open_pages(rt: &LibcRuntime, registers: &str) -> Result<Tally, AnyError> {
+pub(crate) fn open_pages(rt: &LibcRuntime, registers: &str) -> Result<Tally, AnyError> {
     let mut tally = Tally::new();
     for line in registers.lines() {
         let (name, rest) = fields::split(line);

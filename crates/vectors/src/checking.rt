@@ -13,7 +13,7 @@ use std::error::AnyError;
 const SMALL: usize = 12;
 
 // NAME BOOK COUNT SHEET SHEET .., of the books of few atoms: the sheets that pass, of all, are the register.
-pub fn small_books(rt: &LibcRuntime, vectors: &str) -> Result<Tally, AnyError> {
+pub(crate) fn small_books(rt: &LibcRuntime, vectors: &str) -> Result<Tally, AnyError> {
     let mut tally = Tally::new();
     for line in vectors.lines() {
         let (name, rest) = fields::split(line);
@@ -30,7 +30,7 @@ pub fn small_books(rt: &LibcRuntime, vectors: &str) -> Result<Tally, AnyError> {
 }
 
 // The same lines, of the other books: each sheet of the register passes, and they ascend.
-pub fn large_books(rt: &LibcRuntime, vectors: &str) -> Result<Tally, AnyError> {
+pub(crate) fn large_books(rt: &LibcRuntime, vectors: &str) -> Result<Tally, AnyError> {
     let mut tally = Tally::new();
     for line in vectors.lines() {
         let (name, rest) = fields::split(line);

@@ -15,7 +15,7 @@ const BLANK: u8 = 0xa5;
 //     start ATOMS, add HEAD ATOMS ATOMS, write LENGTH-OF-BUFFER
 // and the answers
 //     accepted, refused NUMBER PLACE, written LENGTH BYTES
-pub fn scripts(rt: &LibcRuntime, vectors: &str) -> Result<Tally, AnyError> {
+pub(crate) fn scripts(rt: &LibcRuntime, vectors: &str) -> Result<Tally, AnyError> {
     let mut tally = Tally::new();
     let mut draft = Draft::new();
     for line in vectors.lines() {
@@ -31,7 +31,7 @@ pub fn scripts(rt: &LibcRuntime, vectors: &str) -> Result<Tally, AnyError> {
 }
 
 // NAME BOOK ..: the rules of a book, put into a draft one by one, are written as the very bytes they were read from.
-pub fn rewritten(rt: &LibcRuntime, vectors: &str) -> Result<Tally, AnyError> {
+pub(crate) fn rewritten(rt: &LibcRuntime, vectors: &str) -> Result<Tally, AnyError> {
     let mut tally = Tally::new();
     for line in vectors.lines() {
         let (name, rest) = fields::split(line);

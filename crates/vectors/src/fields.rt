@@ -15,7 +15,7 @@ fn digit(b: u8) -> Result<u8, AnyError>
 }
 
 // The bytes of a field in hexadecimal; a dash stands for none.
-pub fn bytes(heap: Global, field: &str) -> Result<Vec<u8>, AnyError> {
+pub(crate) fn bytes(heap: Global, field: &str) -> Result<Vec<u8>, AnyError> {
     let mut found = Vec::new(heap);
     for pair in field.as_bytes().chunks_exact(2) {
         if let [high, low] = pair {
@@ -26,12 +26,12 @@ pub fn bytes(heap: Global, field: &str) -> Result<Vec<u8>, AnyError> {
 }
 
 // The first field of a line, and the rest of the line.
-pub fn split(line: &str) -> (&str, &str) {
+pub(crate) fn split(line: &str) -> (&str, &str) {
     line.split_once(' ').unwrap_or((line, ""))
 }
 
 // The digits of a sheet or a page, one a byte; a dash stands for none.
-pub fn digits(heap: Global, field: &str) -> Result<Vec<u8>, AnyError> {
+pub(crate) fn digits(heap: Global, field: &str) -> Result<Vec<u8>, AnyError> {
     let mut found = Vec::new(heap);
     if field == "-" {
         return Ok(found);
@@ -43,7 +43,7 @@ pub fn digits(heap: Global, field: &str) -> Result<Vec<u8>, AnyError> {
 }
 
 // Bytes of one digit each as a field; a dash for none.
-pub fn shown(heap: Global, bytes: &[u8]) -> Result<String, AnyError> {
+pub(crate) fn shown(heap: Global, bytes: &[u8]) -> Result<String, AnyError> {
     let mut field = String::new(heap);
     if bytes.is_empty() {
         field.push('-')?;

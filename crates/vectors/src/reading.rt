@@ -16,7 +16,7 @@ fn described(heap: Global, fault: BookFault) -> Result<String, AnyError> {
 }
 
 // NAME BOOK RULE fault LAYER CAUSE BYTE
-pub fn declined(rt: &LibcRuntime, vectors: &str) -> Result<Tally, AnyError> {
+pub(crate) fn declined(rt: &LibcRuntime, vectors: &str) -> Result<Tally, AnyError> {
     let mut tally = Tally::new();
     for line in vectors.lines() {
         let (name, rest) = fields::split(line);
@@ -32,7 +32,7 @@ pub fn declined(rt: &LibcRuntime, vectors: &str) -> Result<Tally, AnyError> {
 }
 
 // NAME BOOK COUNT SHEET SHEET ..
-pub fn accepted(rt: &LibcRuntime, vectors: &str) -> Result<Tally, AnyError> {
+pub(crate) fn accepted(rt: &LibcRuntime, vectors: &str) -> Result<Tally, AnyError> {
     let mut tally = Tally::new();
     for line in vectors.lines() {
         let (name, rest) = fields::split(line);

@@ -3,13 +3,13 @@ use std::error::AnyError;
 
 // How many vectors of a set were run, and how many came out as expected.
 #[derive(Clone, Copy)]
-pub struct Tally {
+pub(crate) struct Tally {
     run: usize,
     as_expected: usize,
 }
 
 impl Tally {
-    pub fn new() -> Tally {
+    pub(crate) fn new() -> Tally {
         Tally {
             run: 0,
             as_expected: 0,
@@ -17,7 +17,12 @@ impl Tally {
     }
 
     // Counts one vector, and names it where it differs.
-    pub fn note(&mut self, rt: &LibcRuntime, name: &str, same: bool) -> Result<(), AnyError> {
+    pub(crate) fn note(
+        &mut self,
+        rt: &LibcRuntime,
+        name: &str,
+        same: bool,
+    ) -> Result<(), AnyError> {
         self.run = self.run.saturating_add(1);
         if same {
             self.as_expected = self.as_expected.saturating_add(1);
@@ -28,7 +33,7 @@ impl Tally {
     }
 
     // The line of the set; a difference is an error.
-    pub fn report(self, rt: &LibcRuntime, set: &str) -> Result<(), AnyError> {
+    pub(crate) fn report(self, rt: &LibcRuntime, set: &str) -> Result<(), AnyError> {
         let run = self.run;
         let same = self.as_expected;
         println!(rt, "{set}: {run} run, {same} as expected")?;

@@ -9,7 +9,8 @@ use Rattle.answer.specs.Answer.{inside}
 use Rattle.answer.specs.Flags.{flagged}
 use Rattle.answer.specs.Computed.{least-set}
 use Rattle.operator.specs.Operator.{usable}
-use Rattle.operator.proofs.Outside.{least-flagged, none-flagged, outside-some}
+use Rattle.answer.proofs.Rounds.{none-flagged}
+use Rattle.operator.proofs.Outside.{least-flagged, outside-some}
 use Rattle.operator.proofs.unfounded.unfounded_notes.Needs as need
 
 pub returns : need.returns
