@@ -1,7 +1,9 @@
-// Answer sets of a book.
-//
-// `check` says whether a sheet is an answer set, `check_sheet` whether bytes are a sheet at all.
-// `least_atoms` gives the smallest set closed under some of the rules, and `smaller` is the order of sheets.
+//! Answer sets of a book.
+//!
+//! `check` says whether a sheet is an answer set, `check_sheet` whether bytes are a sheet at all.
+//! `least_atoms` gives the smallest set closed under some of the rules, and `smaller` is the order of sheets.
+#![tactic(auto)]
+
 pub mod check;
 pub mod flags;
 pub mod least;

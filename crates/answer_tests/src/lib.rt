@@ -1,3 +1,5 @@
-// What small books pass, sheet by sheet.
+//! What small books pass, sheet by sheet.
+#![tactic(auto)]
+
 #[cfg(test)]
 mod tests;

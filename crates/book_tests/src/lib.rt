@@ -1,4 +1,6 @@
-// The reader on worked examples. The book of the odd loop has one rule, x if not x.
+//! The reader on worked examples. The book of the odd loop has one rule, x if not x.
+#![tactic(auto)]
+
 #[cfg(test)]
 mod tests {
     use book::book::Book;

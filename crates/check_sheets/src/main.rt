@@ -1,4 +1,6 @@
-// Says of each sheet among the arguments whether it is an answer set of the book on standard input.
+//! Says of each sheet among the arguments whether it is an answer set of the book on standard input.
+#![tactic(auto)]
+
 ghost use Rattle.std.specs.Prelude.{◌≡◌, map, IfOk};
 ghost use Rattle.book.specs.Reading.{program_of};
 ghost use Rattle.check_sheets.specs.Said.{value, Finds};

@@ -1,4 +1,6 @@
-// Tests of drafts: the limits one at a time, and what is written.
+//! Tests of drafts: the limits one at a time, and what is written.
+#![tactic(auto)]
+
 #[cfg(test)]
 mod limits;
 #[cfg(test)]

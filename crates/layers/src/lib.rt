@@ -1,7 +1,9 @@
-// Layers: operators over any lawful operators, and the stacks that are made of them.
-//
-// `Sequence` applies one and then another, `UntilRest` one until it leaves the page as it was, `Lookahead` tries
-// the open objects. `Basic` and `Full` are the stacks, and `Nothing` derives nothing.
+//! Layers: operators over any lawful operators, and the stacks that are made of them.
+//!
+//! `Sequence` applies one and then another, `UntilRest` one until it leaves the page as it was, `Lookahead` tries
+//! the open objects. `Basic` and `Full` are the stacks, and `Nothing` derives nothing.
+#![tactic(auto)]
+
 mod below;
 mod keep;
 pub mod lookahead;

@@ -1,6 +1,7 @@
-// Operators: what follows from a book and the marks of a page.
-//
-// `Operator` is the interface, with its law. `Forward`, `Backward` and `Unfounded` are the plain ones.
+//! Operators: what follows from a book and the marks of a page.
+//!
+//! `Operator` is the interface, with its law. `Forward`, `Backward` and `Unfounded` are the plain ones.
+#![tactic(auto)]
 
 pub mod backward;
 pub mod forward;

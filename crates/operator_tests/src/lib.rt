@@ -1,4 +1,6 @@
-// Operators and layers on worked examples.
+//! Operators and layers on worked examples.
+#![tactic(auto)]
+
 #[cfg(test)]
 mod tests {
     use book::book::Book;

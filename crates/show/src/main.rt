@@ -1,5 +1,7 @@
-// Prints a book from standard input: how many atoms and rules it has, then its rules one a line.
-// A book that is declined is one line: the layer, the cause and the byte of its first fault.
+//! Prints a book from standard input: how many atoms and rules it has, then its rules one a line.
+//! A book that is declined is one line: the layer, the cause and the byte of its first fault.
+#![tactic(auto)]
+
 use book::book::Book;
 use book::book::rules::{Rule, atom_at};
 use std::fmt;

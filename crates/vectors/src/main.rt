@@ -1,5 +1,7 @@
-// Runs the library on outside vectors, books and what is expected of them, and compares.
-// A line a set says how many there were and how many came out as expected; a difference is shown by name.
+//! Runs the library on outside vectors, books and what is expected of them, and compares.
+//! A line a set says how many there were and how many came out as expected; a difference is shown by name.
+#![tactic(auto)]
+
 mod applying;
 mod checking;
 mod drafting;

@@ -5,13 +5,13 @@ use Rattle.book.proofs.Firsts.{first_more, first_found}
 use Rattle.book.proofs.bodies.check_bodies.Goals as goal
 use Rattle.book.proofs.bodies.check_bodies.Goals.{then-loop-k-test+then-loop-i-test+in-Err, else-loop-k-test}
 
-pub check-literal-requires : goal.check-literal-requires
-check-literal-requires c =
+pub check_literal-requires : goal.check_literal-requires
+check_literal-requires c =
     let good = entry_sound c.args.bytes.now c.loop-k.k c.args.counts.rules c.loop-k-test.true c.requires.1 in search rules
 
 pub loop-i-preserved : goal.loop-i-preserved
 loop-i-preserved c =
-    first_more (literal_fault c.args.bytes.now c.loop-k.k) c.loop-i.i c.loop-i.invariant ∙ sym c.in-default.ensures
+    first_more (literal_fault c.args.bytes.now c.loop-k.k) c.loop-i.i c.loop-i.invariant ∙ sym c.in_default.ensures
 
 pub loop-k-preserved : goal.loop-k-preserved
 loop-k-preserved c =

@@ -9,9 +9,9 @@ returns c =
     let bs = c.args.bytes.now in
     let f = entry_fields bs _ c.args.k (take_rest bs (entry_from c.args.k)) in
     record {
-      head = c.take-entry.ensures.head ∙ f.0;
-      place = c.take-entry.ensures.place ∙ f.1;
-      positives = c.take-entry.ensures.positives ∙ f.2;
-      negatives = c.take-entry.ensures.negatives ∙ f.3;
-      small = c.take-entry.ensures.small;
+      head = c.take_entry.ensures.head ∙ f.0;
+      place = c.take_entry.ensures.place ∙ f.1;
+      positives = c.take_entry.ensures.positives ∙ f.2;
+      negatives = c.take_entry.ensures.negatives ∙ f.3;
+      small = c.take_entry.ensures.small;
     }
