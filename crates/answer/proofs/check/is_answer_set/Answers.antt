@@ -10,10 +10,10 @@ pub returns : goal.returns
 returns c =
     let p : Program = program_of c.args.book.now in
     let s : List ℕ = c.args.sheet.now in
-    let out : ℕ → Bool = flagged c.outside-atoms-out.result in
-    let used : ℕ → Bool = flagged c.reduct-rules-used.result in
-    let t : ℕ → Bool = flagged c.least-atoms-least.result in
+    let out : ℕ → Bool = flagged c.outside_atoms-out.result in
+    let used : ℕ → Bool = flagged c.reduct_rules-used.result in
+    let t : ℕ → Bool = flagged c.least_atoms-least.result in
     let L : Least p (reduct p s) t =
-    least_like p used (reduct p s) t (λ r l. c.reduct-rules-used.ensures r l ∙ reduct_by p s out c.requires.valid c.outside-atoms-out.ensures r l)
-    c.least-atoms-least.ensures in
-    answer_decides p s t c.requires.valid.proper c.requires.sheet L c.same-atoms.result (rw c.requires.sheet.long at c.same-atoms.ensures)
+    least_like p used (reduct p s) t (λ r l. c.reduct_rules-used.ensures r l ∙ reduct_by p s out c.requires.valid c.outside_atoms-out.ensures r l)
+    c.least_atoms-least.ensures in
+    answer_decides p s t c.requires.valid.proper c.requires.sheet L c.same_atoms.result (rw c.requires.sheet.long at c.same_atoms.ensures)

@@ -5,7 +5,7 @@ use Rattle.answer.specs.Flags.{flagged}
 use Rattle.answer.specs.Rounds.{Went}
 use Rattle.answer.proofs.Rounds.{went_more}
 use Rattle.answer.proofs.least.round.Goals as goal
-use Rattle.answer.proofs.least.round.Goals.{then-add-head, else-add-head}
+use Rattle.answer.proofs.least.round.Goals.{then-add_head, else-add_head}
 
 pub loop-k-preserved : goal.loop-k-preserved
 loop-k-preserved c =
@@ -14,10 +14,10 @@ loop-k-preserved c =
     let k = c.loop-k.k in
     let xs : List Bool = c.args.flags.now in
     let zs : List Bool = c.loop-k.flags in
-    let ys : List Bool = c.add-head.new.flags in
+    let ys : List Bool = c.add_head.new.flags in
     let l : k < rule_count p = omega (arith, c.rules-k-end.ensures, c.loop-k-test.true) in
     let m : length zs ≡ 128 = search rules in
-    elim c.if-add-head.branch [
-      | then-add-head w ↦ subst (λ (s : Bool). Went p u (k + 1) xs s ys) (sym w.joined-is) (went_more p u k xs zs ys c.loop-k.joined true l m c.loop-k.invariant w.if-add-head.ensures)
-      | else-add-head w ↦ subst (λ (s : Bool). Went p u (k + 1) xs s ys) (sym w.joined-is) (went_more p u k xs zs ys c.loop-k.joined false l m c.loop-k.invariant w.if-add-head.ensures)
+    elim c.if-add_head.branch [
+      | then-add_head w ↦ subst (λ (s : Bool). Went p u (k + 1) xs s ys) (sym w.joined-is) (went_more p u k xs zs ys c.loop-k.joined true l m c.loop-k.invariant w.if-add_head.ensures)
+      | else-add_head w ↦ subst (λ (s : Bool). Went p u (k + 1) xs s ys) (sym w.joined-is) (went_more p u k xs zs ys c.loop-k.joined false l m c.loop-k.invariant w.if-add_head.ensures)
     ]

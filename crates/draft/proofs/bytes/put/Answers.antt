@@ -6,4 +6,4 @@ pub returns : goal.returns
 returns c =
     let i = c.args.at in
     let s = c.args.part.now in
-    put_mid-paste i (i + length s - i) c.args.bytes.now _ s (length s) c.copy-from-slice.ensures.after (omega arith) refl
+    put_mid-paste i (i + length s - i) c.args.bytes.now _ s (length s) c.copy_from_slice.ensures.after (omega arith) refl

@@ -9,7 +9,7 @@ loop-i-init c = paste_none c.args.bodies.now (2 * c.args.from) []
 pub loop-i-preserved : goal.loop-i-preserved
 loop-i-preserved c =
     c.put.ensures
-    ∙ atoms_more c.args.bodies.now c.loop-i.bodies c.two-bytes.result c.args.atoms.now c.args.from c.loop-i.i c.loop-i-test.true (omega arith) c.loop-i.invariant c.two-bytes.ensures
+    ∙ atoms_more c.args.bodies.now c.loop-i.bodies c.two_bytes.result c.args.atoms.now c.args.from c.loop-i.i c.loop-i-test.true (omega arith) c.loop-i.invariant c.two_bytes.ensures
 
 pub returns : goal.returns
 returns c =

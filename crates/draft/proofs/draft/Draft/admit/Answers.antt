@@ -5,5 +5,5 @@ use Rattle.draft.proofs.draft.Draft.admit.Goals as goal
 
 pub returns : goal.returns
 returns c =
-    let e = c.check-rule.ensures in
-    record { declines = e; addable = admitted c.check-rule.result (drafted c.args.self.now) (rule_by c.args.head c.args.positives.now c.args.negatives.now) e }
+    let e = c.check_rule.ensures in
+    record { declines = e; addable = admitted c.check_rule.result (drafted c.args.self.now) (rule_by c.args.head c.args.positives.now c.args.negatives.now) e }
