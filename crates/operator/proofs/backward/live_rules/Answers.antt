@@ -11,18 +11,18 @@ loop-k-init c =
     let few = c.atoms-n.ensures.valid.limited.atoms in
     λ a l. live_none (program_of c.args.book.now) c.args.page.now a (get_or-replicate 128 a 0 0 (omega arith))
 
-pub count-one-requires : goal.count-one-requires
-count-one-requires c =
+pub count_one-requires : goal.count_one-requires
+count_one-requires c =
     let b : Program = program_of c.args.book.now in
     let few = c.atoms-n.ensures.valid.limited in
     let m = few.rules in
     let n = few.atoms in
-    let l = c.nth-rule-head.ensures.head in
-    let u = c.loop-k.invariant c.nth-rule-head.result.head l in
-    let v = live_most b c.args.page.now c.nth-rule-head.result.head c.loop-k.k in
+    let l = c.nth_rule-head.ensures.head in
+    let u = c.loop-k.invariant c.nth_rule-head.result.head l in
+    let v = live_most b c.args.page.now c.nth_rule-head.result.head c.loop-k.k in
     (omega arith, omega (arith, c.loop-k.auto.k-end, c.rules-k-end.ensures))
 
 pub loop-k-preserved : goal.loop-k-preserved
 loop-k-preserved c a l =
-    live_more (program_of c.args.book.now) c.args.page.now c.atoms-n.result c.nth-rule-head.result.head c.loop-k.k a
-    (get_or c.loop-k.counts a 0) _ c.atoms-n.ensures.atoms (ap (λ x. x.head) c.nth-rule-head.ensures.rule) (c.count-one.ensures a) (c.loop-k.invariant a l)
+    live_more (program_of c.args.book.now) c.args.page.now c.atoms-n.result c.nth_rule-head.result.head c.loop-k.k a
+    (get_or c.loop-k.counts a 0) _ c.atoms-n.ensures.atoms (ap (λ x. x.head) c.nth_rule-head.ensures.rule) (c.count_one.ensures a) (c.loop-k.invariant a l)

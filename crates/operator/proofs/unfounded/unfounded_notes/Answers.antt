@@ -15,12 +15,12 @@ returns c =
     let p : List ℕ = c.args.page.now in
     let v = c.atoms.ensures.valid in
     let few = v.limited.atoms in
-    let fs : List Bool = c.least-atoms-inside.result in
+    let fs : List Bool = c.least_atoms-inside.result in
     let same : (a : ℕ) → flagged fs a ≡ inside (least_set b (usable b p)) a =
-    least_flagged b (usable b p) (flagged c.usable-rules-used.result) (flagged fs) v.proper c.usable-rules-used.ensures c.least-atoms-inside.ensures in
+    least_flagged b (usable b p) (flagged c.usable_rules-used.result) (flagged fs) v.proper c.usable_rules-used.ensures c.least_atoms-inside.ensures in
     record {
       atom_in = λ a l. none_flagged 128 a;
-      atom_out = λ a l. c.outside-atoms.ensures a (omega arith) ∙ ap not (same a);
+      atom_out = λ a l. c.outside_atoms.ensures a (omega arith) ∙ ap not (same a);
       body_in = λ r l. none_flagged 256 r;
-      body_out = λ r l. c.outside-bodies.ensures r l ∙ outside_some (flagged fs) (least_set b (usable b p)) same (nth_rule b r).positives;
+      body_out = λ r l. c.outside_bodies.ensures r l ∙ outside_some (flagged fs) (least_set b (usable b p)) same (nth_rule b r).positives;
     }
