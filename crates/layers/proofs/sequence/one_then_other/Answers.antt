@@ -12,5 +12,5 @@ go-verdict-requires g c =
     let p : List ℕ = c.args.page.now in
     let q : List ℕ = c.go.new.page in
     let f : Meaning = g.F.Operator.meaning c.args.first.now in
-    let e : f b p ≡ marked q = was_marked (f b p) p q c.go.result c.go.ensures.answers c.in-default.not-Clash in
+    let e : f b p ≡ marked q = was_marked (f b p) p q c.go.result c.go.ensures.answers c.in_default.not-Clash in
     (followed f b p q (g.met.F.Operator.lawful c.args.first.now) (valid_book c.args.book.now) c.requires.page e).page

@@ -17,7 +17,7 @@ returns-then-unchanged g c =
     let q : List ℕ = c.go.new.page in
     let h : Meaning = g.O.Operator.meaning c.loop-saved.below in
     let f : Meaning = g.O.Operator.meaning c.args.below.now in
-    let m : h b l ≡ marked q = was_marked (h b l) l q c.go.result c.go.ensures.answers c.in-default.not-Clash in
+    let m : h b l ≡ marked q = was_marked (h b l) l q c.go.result c.go.ensures.answers c.in_default.not-Clash in
     let kept : l ≡ q = sym c.save-before.ensures ∙ ap (λ n. take n c.save-before.result) (sym c.go.auto.page) ∙ c.unchanged.ensures.0 c.if-unchanged.true in
     record {
       answers = is_marked _ c.args.page.now q (turn_stays h f b c.args.page.now l q c.loop-saved.invariant.1 m kept c.loop-saved.invariant.2);
@@ -31,7 +31,7 @@ loop-saved-smaller g c =
     let q : List ℕ = c.go.new.page in
     let h : Meaning = g.O.Operator.meaning c.loop-saved.below in
     let f : Meaning = g.O.Operator.meaning c.args.below.now in
-    let m : h b l ≡ marked q = was_marked (h b l) l q c.go.result c.go.ensures.answers c.in-default.not-Clash in
+    let m : h b l ≡ marked q = was_marked (h b l) l q c.go.result c.go.ensures.answers c.in_default.not-Clash in
     turn_falls h f b c.args.page.now l q c.loop-saved.invariant.1 m (g.met.O.Operator.lawful c.args.below.now) (valid_book c.args.book.now) c.loop-saved.invariant.0
     (λ s. both_ways c.unchanged.result c.if-unchanged.false (c.unchanged.ensures.1 (ap (λ n. take n c.save-before.result) c.go.auto.page ∙ c.save-before.ensures ∙ s)))
 
@@ -42,7 +42,7 @@ loop-saved-preserved g c =
     let q : List ℕ = c.go.new.page in
     let h : Meaning = g.O.Operator.meaning c.loop-saved.below in
     let f : Meaning = g.O.Operator.meaning c.args.below.now in
-    let m : h b l ≡ marked q = was_marked (h b l) l q c.go.result c.go.ensures.answers c.in-default.not-Clash in
+    let m : h b l ≡ marked q = was_marked (h b l) l q c.go.result c.go.ensures.answers c.in_default.not-Clash in
     let L = g.met.O.Operator.lawful c.args.below.now in
     let V = valid_book c.args.book.now in
     let G = c.loop-saved.invariant.0 in
