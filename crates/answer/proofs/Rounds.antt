@@ -1,10 +1,10 @@
 -- Rounds over the rules find the smallest closed set.
-use Rattle.std.proofs.Common.{◌≡◌, ℕ, zero, suc, ◌+◌, ◌<◌, Bool, true, false, not, ◌||◌, eqb, List, length, get_or, set, replicate, sym, refl, ◌∙◌, subst, inl, inr, arith, below_more}
+use Rattle.std.proofs.Common.{◌≡◌, ℕ, zero, suc, ◌+◌, ◌<◌, Bool, true, false, not, ◌||◌, eqb, List, length, set, replicate, sym, refl, ◌∙◌, subst, inl, inr, arith, below_more}
 use Rattle.std.proofs.lemmas.List.{get_or-set_same, get_or-set_other}
 use Rattle.std.proofs.lemmas.Bool.{or_cases, or_left, or_right, eq-eqb, ne_eqb, eqb-true, both_ways, not-true, not_from_true, not_from_false, cases_eq}
 use Rattle.book.specs.Program.{Program, nth_rule, rule_count}
-use Rattle.answer.specs.Tests.{each_of, how_many}
-use Rattle.answer.specs.Answer.{Closed, Least}
+use Rattle.answer.specs.Tests.{each_of}
+use Rattle.answer.specs.Answer.{Least}
 use Rattle.answer.specs.Flags.{flagged}
 use Rattle.answer.specs.Rounds.{Heeds, Inner, absent, Added, Went}
 use Rattle.answer.proofs.Tests.{untrue, each_mono, many_lt}

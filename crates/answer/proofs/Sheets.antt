@@ -1,5 +1,5 @@
 -- A sheet is an answer set exactly when it has the atoms of the smallest set closed under its reduct.
-use Rattle.std.proofs.Common.{◌≡◌, ℕ, ◌<◌, ◌≤◌, Bool, true, false, eqb, List, length, get_or, Decides, sym, refl, ap, ◌∙◌, inl, inr, zero-add, arith, lit≤}
+use Rattle.std.proofs.Common.{◌≡◌, ℕ, ◌<◌, ◌≤◌, Bool, true, false, eqb, List, Decides, sym, refl, ◌∙◌, inl, inr, zero-add, arith, lit≤}
 use Rattle.std.proofs.lemmas.List.{get_or_past}
 use Rattle.std.proofs.lemmas.List.FromFn.{length-map-range_with_len, get_or-map-range_with_len}
 use Rattle.std.proofs.lemmas.Bool.{cases_lt, eqb-true}

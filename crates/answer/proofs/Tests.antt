@@ -1,12 +1,10 @@
 -- Tests over lists of numbers and over the numbers below a bound.
-use Rattle.std.proofs.Common.{◌≡◌, ℕ, zero, suc, ◌/◌, ◌<◌, ◌≤◌, Bool, true, false, List, [], ◌∷◌, length, get_or, Decides, sym, refl, ap, ◌∙◌, subst, inl, inr, arith, lit≤}
-use Rattle.std.specs.List.{AllByRecursion as All}
+use Rattle.std.proofs.Common.{◌≡◌, ℕ, zero, suc, ◌<◌, ◌≤◌, Bool, true, false, List, length, get_or, Decides, sym, refl, ap, ◌∙◌, subst, inl, inr, arith, lit≤}
+use Rattle.std.specs.List.{AllByRecursion}
 use Rattle.std.proofs.lemmas.List.{get_or_past}
-use Rattle.std.proofs.lemmas.List.FromFn.{length-map-range_with_len}
 use Rattle.std.proofs.ByRecursion.{All-get_or, All-from_get_or, Decides-by_and}
-use Rattle.std.proofs.lemmas.Bool.{and_parts, and_from, both_ways, cases_Bool, cases_eq, cases_lt}
+use Rattle.std.proofs.lemmas.Bool.{both_ways, cases_Bool, cases_eq, cases_lt}
 use Rattle.std.proofs.lemmas.Bool.Decides.{same_from_decides, Decides-like}
-use Rattle.book.specs.Layout.{word, words}
 use Rattle.answer.specs.Tests.{each_of, bit, how_many}
 
 -- a Boolean that is not true is false
@@ -34,7 +32,7 @@ each_same t u xs e =
     (Decides-like (each_of u xs) (λ h i l. e i ∙ h i l) (λ h i l. sym (e i) ∙ h i l) (each_decides u xs))
 
 -- numbers below n read at any place are below a bound that is no smaller
-pub all_below : (n m : ℕ) (xs : List ℕ) → n ≤ m → 0 < m → All (λ a. a < n) xs → (i : ℕ) → get_or xs i 0 < m
+pub all_below : (n m : ℕ) (xs : List ℕ) → n ≤ m → 0 < m → AllByRecursion (λ a. a < n) xs → (i : ℕ) → get_or xs i 0 < m
 all_below n m xs l z h i =
     elim (cases_lt i (length xs)) [
       | inl k ↦ let e = All-get_or (λ a. a < n) xs i 0 k h in omega arith

@@ -1,5 +1,5 @@
 -- What a round over the rules does to the atoms found so far: for the contracts inside this crate. Assumes nothing.
-use Rattle.std.specs.Prelude.{◌≡◌, ℕ, ◌<◌, Bool, true, false, not, List, set, slice_set}
+use Rattle.std.specs.Prelude.{◌≡◌, ℕ, ◌<◌, Bool, true, false, not, List, slice_set}
 use Rattle.book.specs.Program.{Program, nth_rule, headed}
 use Rattle.answer.specs.Tests.{each_of, how_many}
 use Rattle.answer.specs.Answer.{Within, Closed}

@@ -1,6 +1,6 @@
 -- Programs: what a book says, as mathematics. Assumes nothing.
 use Rattle.std.specs.Prelude.{◌≡◌, ℕ, ◌+◌, ◌<◌, ◌≤◌, Bool, true, List, [], ◌∷◌, length, nat_eq, slice_index, slice_index_or}
-use Rattle.std.specs.List.{AllByRecursion as All}
+use Rattle.std.specs.List.{AllByRecursion}
 
 -- a rule: the atom that it gives, and the atoms that must be in and those that must be out for it
 pub record ProgramRule : Type 0 where
@@ -45,7 +45,7 @@ Ascends xs = (i : ℕ) → i + 1 < length xs → slice_index xs i < slice_index 
 
 -- a part of a body over n atoms
 pub record ProperPart (n : ℕ) (xs : List ℕ) : Type 0 where
-  pub atoms : All (λ a. a < n) xs
+  pub atoms : AllByRecursion (λ a. a < n) xs
   pub ascends : Ascends xs
 
 -- a rule over n atoms

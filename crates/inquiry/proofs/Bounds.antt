@@ -1,9 +1,9 @@
 -- What the code's bounds take from the shape of a walk.
-use Rattle.std.proofs.Common.{◌≡◌, ℕ, zero, suc, ◌+◌, ◌<◌, ◌≤◌, List, length, get_or, set, sym, refl, ap, ◌∙◌, inl, inr, arith}
+use Rattle.std.proofs.Common.{◌≡◌, ℕ, zero, suc, ◌<◌, ◌≤◌, List, length, set, refl, ap, inl, inr, arith}
 use Rattle.std.proofs.lemmas.List.{get_or-set_same}
 use Rattle.std.proofs.lemmas.Bool.{cases_eq}
 use Rattle.book.specs.Program.{Program}
-use Rattle.operator.specs.Page.{opens, Meaning, LawfulOn, marked}
+use Rattle.operator.specs.Page.{Meaning, LawfulOn, marked}
 use Rattle.operator.specs.Pages.{grows_set, opens_le, opens_lt}
 use Rattle.inquiry.specs.declared.state.Level.{Level}
 use Rattle.inquiry.specs.Cursor.{Lowest}

@@ -1,22 +1,22 @@
 -- The calls' contracts, from what the code did.
-use Rattle.std.proofs.Common.{◌≡◌, ℕ, suc, ◌+◌, ◌<◌, ◌≤◌, ◌⊎◌, List, [], ◌∷◌, ◌++◌, take, drop, set, Some, None, Ok, Err, Option, Result, sym, refl, ap, ◌∙◌, subst, zero-add, arith, lit≤, MatchResult}
+use Rattle.std.proofs.Common.{◌≡◌, ℕ, ◌+◌, ◌≤◌, ◌⊎◌, List, ◌∷◌, ◌++◌, take, drop, set, Some, None, Ok, Err, Result, sym, refl, ap, ◌∙◌, subst, zero-add, arith, MatchResult}
 use mathlib.Core.Logic.{∥∥₁_elim, ∥∥₁_map}
 use native.Mathlib.Bridge.{le_prop}
 use Rattle.std.specs.Result.{result_err}
-use Rattle.std.specs.List.{ContainsAt as Has}
+use Rattle.std.specs.List.{ContainsAt}
 use Rattle.book.specs.declared.refusal.Refusal.{Refusal}
 use Rattle.book.specs.Program.{Program, Valid}
 use Rattle.answer.specs.Fault.{sheet_fault}
-use Rattle.operator.specs.Page.{object_count, Meaning, LawfulOn, Lawful}
+use Rattle.operator.specs.Page.{object_count, Meaning, LawfulOn}
 use Rattle.inquiry.specs.declared.inquiry.Inquiry.{Inquiry}
 use Rattle.inquiry.specs.declared.kind.Kind.{Kind}
 use Rattle.inquiry.specs.declared.kind.Kind.TheVariants.{Sheet}
 use Rattle.inquiry.specs.declared.state.State.{State}
 use Rattle.inquiry.specs.Cursor.{Cursor, Above, sheet_of}
-use Rattle.inquiry.specs.Walk.{Walk, at, Finding, sheet, none, paused, Run, over, used_up, hands_out, goes_on}
-use Rattle.inquiry.specs.Calls.{State as States, fresh, opening, Call, next, wish, seek, rewind, Said, declined, done, gave, next_fault, wish_fault, call_fault, moved, Response, declines, nexts, wishes, seeks, rewinds, BringsLawful, Event, event, Transcript, opened, called, settled_cursor, settled_wishes}
-use Rattle.inquiry.specs.Promise.{Says, most, begins, Kept}
-use Rattle.inquiry.specs.Register.{handed, Listing, starts, complete, goes}
+use Rattle.inquiry.specs.Walk.{Walk, at, Finding, paused, Run, over, used_up, hands_out, goes_on}
+use Rattle.inquiry.specs.Calls.{State as States, fresh, Call, next, wish, seek, rewind, Said, declined, done, gave, next_fault, wish_fault, call_fault, moved, Response, declines, nexts, wishes, seeks, rewinds, BringsLawful, Event, event, Transcript, called, settled_cursor, settled_wishes}
+use Rattle.inquiry.specs.Promise.{Says, most, begins}
+use Rattle.inquiry.specs.Register.{handed, complete, goes}
 use Rattle.inquiry.specs.Kinds.{finding, Written}
 use Rattle.inquiry.specs.View.{levels_of, walk_by, standing, walk_of, cursor_of, view, OnlyCursor}
 use Rattle.inquiry.specs.Turns.{InShape}
@@ -130,7 +130,7 @@ module _ (f : Meaning) (b : Program) (s t : States) (k room : ℕ) (x : Finding)
   next_lists es fs xs l tr =
       let g = (listed b es (event (next f k room) (gave x n) ∷ fs) (xs ++ handed x) t (goes l) (called tr L h)).0 in
       let e : settled_cursor (event (next f k room) (gave x n) ∷ fs) ≡ moved s.cursor x = ap (λ c. moved c x) (sym (promise b fs s tr).cursor) in
-      record { ascending = g.ascending; each = g.each; every = λ y u. subst (λ d. Has (xs ++ handed x) y ⊎ Above d y) e (g.every y u) }
+      record { ascending = g.ascending; each = g.each; every = λ y u. subst (λ d. ContainsAt (xs ++ handed x) y ⊎ Above d y) e (g.every y u) }
 
   pub next_closes : Closes b s x
   next_closes e es fs xs l tr =

@@ -1,6 +1,6 @@
 -- A whole register: calls of next up to "none".
 use Rattle.std.proofs.Common.{◌≡◌, ℕ, zero, suc, ◌<◌, ◌⊎◌, List, [], ◌∷◌, ◌++◌, length, sym, refl, ◌∙◌, subst, ap₂, inl, inr, ⊎_elim, append-nil, arith}
-use Rattle.std.specs.List.{ContainsAt as Has, HoldsAt, AllByRecursion as All}
+use Rattle.std.specs.List.{ContainsAt, HoldsAt, AllByRecursion}
 use Rattle.std.proofs.ByRecursion.{All-push, all-has, has_append_left, has_append_right, has_push}
 use Rattle.book.specs.Program.{Program}
 use Rattle.answer.specs.Order.{Smaller}
@@ -16,11 +16,11 @@ use Rattle.inquiry.proofs.Runs.{promise}
 -- the sheets handed out so far: all that are wanted from the cursor c, up to the cursor now, d
 pub record Begun (b : Program) (c d : Cursor) (w : List ℕ) (xs : List (List ℕ)) : Type 0 where
   pub ascending : Ascending xs
-  pub each : All (Wanted b c w) xs
-  pub every : (x : List ℕ) → Wanted b c w x → Has xs x ⊎ Above d x
-  pub later : (x : List ℕ) → Above d x → Above c x × All (λ y. Smaller y x) xs
+  pub each : AllByRecursion (Wanted b c w) xs
+  pub every : (x : List ℕ) → Wanted b c w x → ContainsAt xs x ⊎ Above d x
+  pub later : (x : List ℕ) → Above d x → Above c x × AllByRecursion (λ y. Smaller y x) xs
 
-ascending_push : (xs : List (List ℕ)) (x : List ℕ) → Ascending xs → All (λ y. Smaller y x) xs → Ascending (xs ++ x ∷ [])
+ascending_push : (xs : List (List ℕ)) (x : List ℕ) → Ascending xs → AllByRecursion (λ y. Smaller y x) xs → Ascending (xs ++ x ∷ [])
 ascending_push [] x a h = (tt, tt)
 ascending_push (y ∷ ys) x a h = (All-push (Smaller y) ys x a.0 h.0, ascending_push ys x a.1 h.1)
 
@@ -33,7 +33,7 @@ begun_more b c d w xs (sheet x) B r =
       ascending = ascending_push xs x B.ascending k.1;
       each = All-push (Wanted b c w) xs x B.each (record { answer = r.0.answer; above = k.0; agrees = r.0.agrees });
       every = λ y u. ⊎_elim (λ h. inl (has_append_left xs (x ∷ []) y h))
-          (λ a. ⊎_elim (λ e. inl (subst (Has (xs ++ x ∷ [])) e (has_push xs x))) (λ l. inr l) (r.1 y (record { answer = u.answer; above = a; agrees = u.agrees }))) (B.every y u);
+          (λ a. ⊎_elim (λ e. inl (subst (ContainsAt (xs ++ x ∷ [])) e (has_push xs x))) (λ l. inr l) (r.1 y (record { answer = u.answer; above = a; agrees = u.agrees }))) (B.every y u);
       later = λ z l. let m = B.later z (above_later d x z r.0.above l) in (m.0, All-push (λ y. Smaller y z) xs x m.1 l);
     }
 
@@ -71,25 +71,25 @@ register b c w xs (complete {es = es} {fs = fs} {f = f} {k = k} {room = room} {n
 
 -- two ascending lists of the same sheets are one
 
-has_here : (y : List ℕ) (ys : List (List ℕ)) → Has (y ∷ ys) y
+has_here : (y : List ℕ) (ys : List (List ℕ)) → ContainsAt (y ∷ ys) y
 has_here y ys = (0, omega arith, λ d. refl)
 
-has_cases : (y : List ℕ) (ys : List (List ℕ)) (x : List ℕ) → Has (y ∷ ys) x → (y ≡ x) ⊎ Has ys x
+has_cases : (y : List ℕ) (ys : List (List ℕ)) (x : List ℕ) → ContainsAt (y ∷ ys) x → (y ≡ x) ⊎ ContainsAt ys x
 has_cases y ys x (k, l, h) = go k l h
   where
-    go : (k : ℕ) → k < length (y ∷ ys) → HoldsAt (λ z. z ≡ x) (y ∷ ys) k → (y ≡ x) ⊎ Has ys x
+    go : (k : ℕ) → k < length (y ∷ ys) → HoldsAt (λ z. z ≡ x) (y ∷ ys) k → (y ≡ x) ⊎ ContainsAt ys x
     go zero l h = inl (h x)
     go (suc k) l h = inr (k, omega arith, h)
 
-one_head : (x y : List ℕ) (xs ys : List (List ℕ)) → Ascending (x ∷ xs) → Ascending (y ∷ ys) → Has (y ∷ ys) x → Has (x ∷ xs) y → x ≡ y
+one_head : (x y : List ℕ) (xs ys : List (List ℕ)) → Ascending (x ∷ xs) → Ascending (y ∷ ys) → ContainsAt (y ∷ ys) x → ContainsAt (x ∷ xs) y → x ≡ y
 one_head x y xs ys a c f g = ⊎_elim (λ e. sym e) (λ h. ⊎_elim (λ e. e)
     (λ k. absurd ((strict_total 0).irreflexive x ((strict_total 0).transitive x y x (all-has (Smaller x) xs y a.0 k) (all-has (Smaller y) ys x c.0 h))))
     (has_cases x xs y g)) (has_cases y ys x f)
 
-one_tail : (x y : List ℕ) (xs ys : List (List ℕ)) → x ≡ y → Ascending (x ∷ xs) → ((z : List ℕ) → Has (x ∷ xs) z → Has (y ∷ ys) z) → (z : List ℕ) → Has xs z → Has ys z
+one_tail : (x y : List ℕ) (xs ys : List (List ℕ)) → x ≡ y → Ascending (x ∷ xs) → ((z : List ℕ) → ContainsAt (x ∷ xs) z → ContainsAt (y ∷ ys) z) → (z : List ℕ) → ContainsAt xs z → ContainsAt ys z
 one_tail x y xs ys e a f z h = ⊎_elim (λ d. absurd ((strict_total 0).irreflexive z (subst (λ u. Smaller u z) (e ∙ d) (all-has (Smaller x) xs z a.0 h)))) (λ k. k) (has_cases y ys z (f z (has_append_right (x ∷ []) xs z h)))
 
-one_list : (xs ys : List (List ℕ)) → Ascending xs → Ascending ys → ((z : List ℕ) → Has xs z → Has ys z) → ((z : List ℕ) → Has ys z → Has xs z) → xs ≡ ys
+one_list : (xs ys : List (List ℕ)) → Ascending xs → Ascending ys → ((z : List ℕ) → ContainsAt xs z → ContainsAt ys z) → ((z : List ℕ) → ContainsAt ys z → ContainsAt xs z) → xs ≡ ys
 one_list [] [] a c f g = refl
 one_list [] (y ∷ ys) a c f g = let l = (g y (has_here y ys)).1 in absurd (omega arith)
 one_list (x ∷ xs) [] a c f g = let l = (f x (has_here x xs)).1 in absurd (omega arith)

@@ -1,12 +1,12 @@
 -- Steps that a loop makes, and the shape that every walk keeps.
-use Rattle.std.proofs.Common.{◌≡◌, ℕ, zero, suc, ◌+◌, ◌<◌, ◌≤◌, List, [], ◌∷◌, ◌++◌, length, get_or, set, replicate, Some, None, ◌∙◌, zero-add, arith, lit≤}
+use Rattle.std.proofs.Common.{◌≡◌, ℕ, suc, ◌+◌, ◌<◌, ◌≤◌, List, [], ◌∷◌, ◌++◌, length, get_or, set, replicate, Some, None, ◌∙◌, zero-add, arith, lit≤}
 use Rattle.std.proofs.lemmas.List.{get_or-set_same, length-set, length-replicate}
 use Rattle.book.specs.Program.{Program, rule_count}
 use Rattle.operator.specs.Booleans.{many_most}
 use Rattle.operator.specs.Page.{Page, is_open, opens, Meaning, LawfulOn}
 use Rattle.operator.specs.Pages.{page_set, grows_set, opens_le, opens_lt, set_bound}
 use Rattle.inquiry.specs.Cursor.{Cursor, Lowest}
-use Rattle.inquiry.specs.Walk.{Level, level, out, inn, Walk, ended, at, retreat, Move, found, went, Step, clashes, falls_behind, finds, misses, chooses, Finding, Run, over, used_up, hands_out, goes_on, ShapedLevels, Shaped}
+use Rattle.inquiry.specs.Walk.{Level, level, out, inn, Walk, at, retreat, Move, found, went, Step, clashes, falls_behind, finds, misses, chooses, Finding, Run, over, used_up, hands_out, goes_on, ShapedLevels, Shaped}
 use Rattle.inquiry.specs.Calls.{State, fresh, Call, Said, Response, declines, nexts, wishes, seeks, rewinds, BringsLawful, Event, Transcript, opened, called}
 use Rattle.inquiry.proofs.Faults.{wish_fits, get_or_none}
 use Rattle.inquiry.proofs.Steps.{followed}

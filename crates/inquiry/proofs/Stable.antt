@@ -1,5 +1,5 @@
 -- What a finding says can be told from the sheets alone, so it holds of every inquiry whose past is only known to exist.
-use Rattle.std.proofs.Common.{◌≡◌, ℕ, ◌<◌, true, ◌⊎◌, List, length, get_or, Some, None, sym, subst, inl, inr, ⊎_elim, arith}
+use Rattle.std.proofs.Common.{◌≡◌, ℕ, ◌<◌, true, List, length, get_or, Some, None, subst, inl, inr, ⊎_elim, arith}
 use mathlib.Core.Logic.{∥∥₁_elim, ∥∥₁_map}
 use mathlib.Core.Bool.{Bool-set}
 use native.Mathlib.Nat.{ℕ_set}
@@ -12,7 +12,7 @@ use Rattle.answer.proofs.Computing.{computed}
 use Rattle.answer.proofs.StrictOrder.{Parts, first_difference, trichotomy, strict_total, none_smaller}
 use Rattle.inquiry.specs.Cursor.{Cursor, Above}
 use Rattle.inquiry.specs.Walk.{Finding, sheet, none, paused}
-use Rattle.inquiry.specs.Promise.{Wanted, Says}
+use Rattle.inquiry.specs.Promise.{Says}
 
 refute : {A : Type 0} → ∥ A ∥₁ → (A → ⊥) → ⊥
 refute h f = ∥∥₁_elim h (λ x y. absurd x) f

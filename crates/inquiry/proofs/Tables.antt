@@ -1,12 +1,10 @@
 -- The table of levels, read as a list.
-use Rattle.std.proofs.Common.{◌≡◌, ℕ, zero, suc, ◌+◌, ◌<◌, ◌≤◌, Bool, false, ◌≢◌, List, [], ◌∷◌, length, get_or, take, set, sym, refl, ap, ◌∙◌, add-one, arith}
+use Rattle.std.proofs.Common.{◌≡◌, ℕ, zero, suc, ◌<◌, ◌≤◌, Bool, false, ◌≢◌, List, [], ◌∷◌, length, take, set, refl, ap, ◌∙◌, arith}
 use Rattle.std.proofs.lemmas.List.{get_or-set_same, get_or-set_other}
-use Rattle.inquiry.specs.Walk.{out, inn, Level as Levels, level, Walk, at, retreat}
-use Rattle.inquiry.specs.declared.state.State.{State}
+use Rattle.inquiry.specs.Walk.{inn, level, Walk, at, retreat}
 use Rattle.inquiry.specs.declared.state.Level.{Level}
-use Rattle.inquiry.specs.declared.state.Side.{Side}
 use Rattle.inquiry.specs.declared.state.Side.TheVariants.{Out, In}
-use Rattle.inquiry.specs.View.{side_of, no_level, level_at, level_of, levels_of, walk_by, walk_of}
+use Rattle.inquiry.specs.View.{side_of, no_level, level_at, level_of, levels_of, walk_by}
 
 pub take_set_any : (z : ℕ) (xs : List ℕ) (i v : ℕ) → take z (set xs i v) ≡ set (take z xs) i v
 take_set_any zero [] i v = refl

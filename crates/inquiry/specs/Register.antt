@@ -1,6 +1,6 @@
 -- Registers, in the field enumerations: what calls of next up to "none" hand out. Assumes of the operators that they are lawful on the book.
 use Rattle.std.specs.Prelude.{◌≡◌, ℕ, ◌⊎◌, List, [], ◌∷◌, ◌++◌}
-use Rattle.std.specs.List.{ContainsAt as Has, AllByRecursion as All}
+use Rattle.std.specs.List.{ContainsAt, AllByRecursion}
 use Rattle.book.specs.declared.refusal.Refusal.{Refusal}
 use Rattle.book.specs.Program.{Program}
 use Rattle.answer.specs.Order.{Smaller}
@@ -13,7 +13,7 @@ use Rattle.inquiry.specs.Promise.{Wanted}
 -- each sheet is smaller than all that follow
 abbrev pub Ascending : List (List ℕ) → Type 0
 Ascending [] = Unit {0}
-Ascending (s ∷ ss) = All (Smaller s) ss × Ascending ss
+Ascending (s ∷ ss) = AllByRecursion (Smaller s) ss × Ascending ss
 
 -- the sheet that a finding hands out
 abbrev pub handed : Finding → List (List ℕ)
@@ -37,14 +37,14 @@ pub data Complete (b : Program) : Cursor → List ℕ → List (List ℕ) → Ty
 -- and every wanted sheet is among them or above the cursor now
 pub record Listed (b : Program) (c d : Cursor) (w : List ℕ) (xs : List (List ℕ)) : Type 0 where
   pub ascending : Ascending xs
-  pub each : All (Wanted b c w) xs
-  pub every : (x : List ℕ) → Wanted b c w x → Has xs x ⊎ Above d x
+  pub each : AllByRecursion (Wanted b c w) xs
+  pub every : (x : List ℕ) → Wanted b c w x → ContainsAt xs x ⊎ Above d x
 
 -- the register: the wanted sheets and no others, ascending, so each once
 pub record Registered (b : Program) (c : Cursor) (w : List ℕ) (xs : List (List ℕ)) : Type 0 where
   pub ascending : Ascending xs
-  pub each : All (Wanted b c w) xs
-  pub every : (x : List ℕ) → Wanted b c w x → Has xs x
+  pub each : AllByRecursion (Wanted b c w) xs
+  pub every : (x : List ℕ) → Wanted b c w x → ContainsAt xs x
 
 -- every complete listing is the register
 abbrev pub Register : Type 0

@@ -1,7 +1,7 @@
 -- A body and its literals, for any two parts and any marks: no book and no place.
 use Rattle.std.specs.Prelude.{◌≡◌, ℕ, Bool, true, ◌||◌, List, ◌==◌, ◌≢◌, nat_eq}
 use Rattle.std.proofs.Common.{inl, inr}
-use Rattle.std.specs.List.{AllByRecursion as All}
+use Rattle.std.specs.List.{AllByRecursion}
 use Rattle.std.proofs.lemmas.Bool.{and_parts, and_from, or_cases, eqb-true}
 use Rattle.book.specs.Program.{ProgramRule}
 use Rattle.answer.specs.Tests.{each_of, some_of}
@@ -24,7 +24,7 @@ module _ (s : List ℕ) (r : ProgramRule) where
   neg_out a h e = denied _ (among (outside s) a r.negatives e (holds_neg h))
 
 -- the marks of the atoms with Q tell of the set, and the atoms of the body have Q
-module _ (p s : List ℕ) (Q : ℕ → Type 0) (has : (a : ℕ) → Q a → is_in p a ≡ true → inside s a ≡ true) (lacks : (a : ℕ) → Q a → is_out p a ≡ true → inside s a ≢ true) (r : ProgramRule) (pos : All Q r.positives) (neg : All Q r.negatives) where
+module _ (p s : List ℕ) (Q : ℕ → Type 0) (has : (a : ℕ) → Q a → is_in p a ≡ true → inside s a ≡ true) (lacks : (a : ℕ) → Q a → is_out p a ≡ true → inside s a ≢ true) (r : ProgramRule) (pos : AllByRecursion Q r.positives) (neg : AllByRecursion Q r.negatives) where
   made : (t u : ℕ → Bool) → ((x : ℕ) → Q x → t x ≡ true → inside s x ≡ true) → ((x : ℕ) → Q x → u x ≡ true → inside s x ≢ true) → each_of t r.positives ≡ true → each_of u r.negatives ≡ true → holds s r ≡ true
   made t u f g x y = and_from _ _ (each_weaker Q t (inside s) f r.positives pos x) (each_weaker Q u (outside s) (λ a k h. deny _ (g a k h)) r.negatives neg y)
 

@@ -1,7 +1,7 @@
 -- Tests that are passed or not, over lists of numbers and over the numbers below a bound.
 use Rattle.std.specs.Prelude.{◌≡◌, ℕ, zero, suc, ◌<◌, ◌≤◌, Bool, true, false, not, ◌&&◌, List, [], ◌∷◌, Decides, ◌==◌, ◌≢◌, nat_eq, refl}
 use Rattle.std.proofs.Common.{sym, inl, inr, arith, lit≤}
-use Rattle.std.specs.List.{AllByRecursion as All}
+use Rattle.std.specs.List.{AllByRecursion}
 use Rattle.std.proofs.lemmas.Bool.{true≢false, false≢true, and_parts, and_from, or_cases, eqb-true, both_ways, not-true}
 use Rattle.std.proofs.lemmas.Bool.Decides.{Decides-below_or, Decides-below_and}
 use Rattle.answer.specs.Tests.{each_of, some_of, each_below, some_below, bit, how_many}
@@ -26,7 +26,7 @@ and_4 w x y z e =
 
 -- numbers with Q that pass one test pass another
 pub each_weaker : (Q : ℕ → Type 0) (t u : ℕ → Bool) → ((x : ℕ) → Q x → t x ≡ true → u x ≡ true)
-    → (xs : List ℕ) → All Q xs → each_of t xs ≡ true → each_of u xs ≡ true
+    → (xs : List ℕ) → AllByRecursion Q xs → each_of t xs ≡ true → each_of u xs ≡ true
 each_weaker Q t u f [] q e = refl
 each_weaker Q t u f (x ∷ xs) q e =
     let h = and_parts (t x) (each_of t xs) e in
@@ -34,7 +34,7 @@ each_weaker Q t u f (x ∷ xs) q e =
 
 -- tests that no number with Q passes both
 pub some_each : (Q : ℕ → Type 0) (t u : ℕ → Bool) → ((x : ℕ) → Q x → t x ≡ true → u x ≢ true)
-    → (xs : List ℕ) → All Q xs → some_of t xs ≡ true → each_of u xs ≢ true
+    → (xs : List ℕ) → AllByRecursion Q xs → some_of t xs ≡ true → each_of u xs ≢ true
 some_each Q t u f [] q s e = true≢false (sym s)
 some_each Q t u f (x ∷ xs) q s e =
     let h = and_parts (u x) (each_of u xs) e in

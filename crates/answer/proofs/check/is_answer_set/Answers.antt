@@ -1,4 +1,4 @@
-use Rattle.std.proofs.Common.{◌≡◌, ℕ, Bool, List, ◌∙◌}
+use Rattle.std.proofs.Common.{ℕ, Bool, List, ◌∙◌}
 use Rattle.book.specs.Program.{Program}
 use Rattle.book.specs.Reading.{program_of}
 use Rattle.answer.specs.Answer.{reduct, Least}

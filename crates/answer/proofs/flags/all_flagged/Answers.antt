@@ -1,4 +1,4 @@
-use Rattle.std.proofs.Common.{◌≡◌, sym, ap, ◌∙◌, arith}
+use Rattle.std.proofs.Common.{sym, ap, ◌∙◌, arith}
 use Rattle.book.specs.Layout.{words}
 use Rattle.answer.specs.Flags.{flagged}
 use Rattle.book.proofs.Parts.{words-length}

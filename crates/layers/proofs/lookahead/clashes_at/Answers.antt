@@ -1,4 +1,4 @@
-use Rattle.std.proofs.Common.{◌≡◌, ℕ, List, set, sym, ap, ◌∙◌, subst}
+use Rattle.std.proofs.Common.{ℕ, List, sym, ap, ◌∙◌, subst}
 use Rattle.book.specs.Program.{Program}
 use Rattle.book.specs.Reading.{program_of}
 use Rattle.operator.specs.Page.{Meaning, Page}

@@ -7,7 +7,6 @@ use Rattle.operator.specs.Page.{Meaning, marked}
 use Rattle.operator.specs.Layer.{until_rest}
 use Rattle.layers.proofs.Turns.{was_marked, is_marked}
 use Rattle.layers.proofs.Resting.{turn_stays, turn_falls, turn_page, turn_moves}
-use Rattle.layers.proofs.until_rest.rest.Given as given
 use Rattle.layers.proofs.until_rest.rest.Goals as goal
 
 pub returns-then-unchanged : goal.returns-then-unchanged

@@ -1,4 +1,4 @@
-use Rattle.std.proofs.Common.{◌≡◌, ℕ, false, List, get_or, refl, ap, arith, rules}
+use Rattle.std.proofs.Common.{ℕ, false, List, get_or, refl, ap, rules}
 use Rattle.book.specs.Program.{Program}
 use Rattle.book.specs.Layout.{words}
 use Rattle.book.specs.Reading.{program_of}

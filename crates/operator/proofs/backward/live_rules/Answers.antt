@@ -1,8 +1,7 @@
-use Rattle.std.proofs.Common.{◌≡◌, get_or, ap, arith, rules}
+use Rattle.std.proofs.Common.{get_or, ap, arith}
 use Rattle.std.proofs.lemmas.List.{get_or-replicate}
 use Rattle.book.specs.Program.{Program}
 use Rattle.book.specs.Reading.{program_of}
-use Rattle.operator.specs.Operator.{live}
 use Rattle.operator.proofs.Backwards.{live_none, live_most, live_more}
 use Rattle.operator.proofs.backward.live_rules.Goals as goal
 

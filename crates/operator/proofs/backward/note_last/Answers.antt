@@ -1,5 +1,4 @@
-use Rattle.std.proofs.Common.{◌≡◌, ℕ, true, false, List, get_or, ◌∙◌, rules}
-use Rattle.book.specs.Layout.{words}
+use Rattle.std.proofs.Common.{◌≡◌, true, false, get_or, ◌∙◌, rules}
 use Rattle.operator.proofs.Backwards.{lone_below, last_is}
 use Rattle.operator.proofs.backward.note_last.Goals as goal
 

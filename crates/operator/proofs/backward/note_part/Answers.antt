@@ -1,4 +1,4 @@
-use Rattle.std.proofs.Common.{◌≡◌, false, get_or, arith, rules}
+use Rattle.std.proofs.Common.{false, get_or, arith, rules}
 use Rattle.book.specs.Layout.{words}
 use Rattle.operator.proofs.Backwards.{part_more, part_all}
 use Rattle.operator.proofs.backward.note_part.Goals as goal

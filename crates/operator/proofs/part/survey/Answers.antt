@@ -1,10 +1,8 @@
-use Rattle.std.proofs.Common.{◌≡◌, ℕ, ◌+◌, ◌*◌, ◌/◌, true, false, List, length, get_or, sym, ◌∙◌, subst, arith, rules}
-use Rattle.std.proofs.lemmas.Bool.{eq-eqb, ne_eqb}
+use Rattle.std.proofs.Common.{◌≡◌, ℕ, ◌/◌, List, length, get_or, sym, ◌∙◌, subst, arith}
+use Rattle.std.proofs.lemmas.Bool.{eq-eqb}
 use Rattle.book.specs.Layout.{words}
-use Rattle.operator.specs.Parts.{met}
-use Rattle.operator.specs.declared.part.Part.{Part}
 use Rattle.operator.specs.declared.part.Part.TheVariants.{Failed}
-use Rattle.operator.proofs.Surveys.{Seen, Told, turn_met, turn_open, seen_failed, seen_all, told_words}
+use Rattle.operator.proofs.Surveys.{Seen, turn_met, turn_open, seen_failed, seen_all, told_words}
 use Rattle.operator.proofs.part.survey.Goals as goal
 use Rattle.operator.proofs.part.survey.Goals.{then-mark-want, else-mark-want}
 

@@ -7,5 +7,5 @@ use Rattle.inquiry.proofs.inquiry.Inquiry.admit_seek.Goals as goal
 
 pub returns : goal.returns
 returns c =
-    admitted c.args.self.now (seek c.args.sheet.now) c.check-sheet.result tt
-    (subst (λ n. result_err c.check-sheet.result ≡ sheet_fault n c.args.sheet.now) c.atoms.ensures.atoms c.check-sheet.ensures.declines)
+    admitted c.args.self.now (seek c.args.sheet.now) c.check_sheet.result tt
+    (subst (λ n. result_err c.check_sheet.result ≡ sheet_fault n c.args.sheet.now) c.atoms.ensures.atoms c.check_sheet.ensures.declines)

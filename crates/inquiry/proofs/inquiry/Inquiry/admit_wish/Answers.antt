@@ -6,5 +6,5 @@ use Rattle.inquiry.proofs.inquiry.Inquiry.admit_wish.Goals as goal
 
 pub returns : goal.returns
 returns c =
-    admitted c.args.self.now (wish c.args.atom c.args.value) c.check-wish.result tt
-    (subst (λ n. result_err c.check-wish.result ≡ wish_fault n c.args.atom c.args.value) c.atoms.ensures.atoms c.check-wish.ensures)
+    admitted c.args.self.now (wish c.args.atom c.args.value) c.check_wish.result tt
+    (subst (λ n. result_err c.check_wish.result ≡ wish_fault n c.args.atom c.args.value) c.atoms.ensures.atoms c.check_wish.ensures)

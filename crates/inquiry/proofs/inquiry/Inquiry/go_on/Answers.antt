@@ -1,4 +1,4 @@
-use Rattle.std.proofs.Common.{◌≡◌, ℕ, length, take, refl}
+use Rattle.std.proofs.Common.{ℕ, length, take, refl}
 use Rattle.book.specs.Program.{Program}
 use Rattle.book.specs.Reading.{program_of}
 use Rattle.book.proofs.Holding.{valid_book}
@@ -22,8 +22,8 @@ advance-requires g c =
       room = (next_fits b.atoms c.args.allowance (length c.args.buffer.now) c.requires).2;
     }
 
-pub invariant-of-self : goal.invariant-of-self
-invariant-of-self g c =
+pub invariant_of-self : goal.invariant_of-self
+invariant_of-self g c =
     let f : Meaning = g.O.Operator.meaning c.args.operator.now in
     let b : Program = program_of c.args.self.now.book in
     let s : State = c.args.self.now.state in
@@ -31,7 +31,7 @@ invariant-of-self g c =
     let x : Finding = finding c.advance.result.kind (take b.atoms c.advance.new.buffer) in
     let n : ℕ = c.advance.result.steps in
     let h = next_responds f b s t c.args.allowance (length c.args.buffer.now) x n c.requires c.advance.ensures.run c.advance.ensures.cursor c.advance.ensures.wishes in
-    (past_more b (view b s) (view b t) (next f c.args.allowance (length c.args.buffer.now)) (gave x n) (g.met.O.Operator.lawful c.args.operator.now b (valid_book c.args.self.now.book)) h c.args.self.now.past, tt)
+    record { past = past_more b (view b s) (view b t) (next f c.args.allowance (length c.args.buffer.now)) (gave x n) (g.met.O.Operator.lawful c.args.operator.now b (valid_book c.args.self.now.book)) h c.args.self.now.past }
 
 pub returns : goal.returns
 returns g c =

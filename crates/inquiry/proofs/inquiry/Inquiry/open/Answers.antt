@@ -8,11 +8,11 @@ use Rattle.inquiry.proofs.Fresh.{start_view}
 use Rattle.inquiry.proofs.Runs.{promise}
 use Rattle.inquiry.proofs.inquiry.Inquiry.open.Goals as goal
 
-pub invariant-of-result : goal.invariant-of-result
-invariant-of-result c =
+pub invariant_of-result : goal.invariant_of-result
+invariant_of-result c =
     let b : Program = program_of c.args.book in
     let e : view b c.start-state.result ≡ opening b = ap (view b) c.start-state.ensures ∙ start_view b (valid_book c.args.book) in
-    (∣ ([], subst (Transcript b []) (sym e) opened) ∣₁, tt)
+    record { past = ∣ ([], subst (Transcript b []) (sym e) opened) ∣₁ }
 
 pub returns : goal.returns
 returns c =

@@ -1,4 +1,4 @@
-use Rattle.std.proofs.Common.{◌≡◌, refl}
+use Rattle.std.proofs.Common.{refl}
 use Rattle.book.specs.Program.{Program}
 use Rattle.book.specs.Reading.{program_of}
 use Rattle.inquiry.specs.declared.state.State.{State}
@@ -7,12 +7,12 @@ use Rattle.inquiry.specs.View.{view}
 use Rattle.inquiry.proofs.Calling.{past_more, answered, seek_responds}
 use Rattle.inquiry.proofs.inquiry.Inquiry.set_cursor.Goals as goal
 
-pub invariant-of-self : goal.invariant-of-self
-invariant-of-self c =
+pub invariant_of-self : goal.invariant_of-self
+invariant_of-self c =
     let b : Program = program_of c.args.self.now.book in
     let s : State = c.args.self.now.state in
     let t : State = c.seek.new.self in
-    (past_more b (view b s) (view b t) (seek c.args.sheet.now) done tt (seek_responds b s t c.args.sheet.now c.requires c.seek.ensures) c.args.self.now.past, tt)
+    record { past = past_more b (view b s) (view b t) (seek c.args.sheet.now) done tt (seek_responds b s t c.args.sheet.now c.requires c.seek.ensures) c.args.self.now.past }
 
 pub returns : goal.returns
 returns c =

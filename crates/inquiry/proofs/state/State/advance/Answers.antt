@@ -1,4 +1,4 @@
-use Rattle.std.proofs.Common.{◌≡◌, ℕ, List, take, ◌∙◌}
+use Rattle.std.proofs.Common.{ℕ, List, take, ◌∙◌}
 use Rattle.book.specs.Program.{Program}
 use Rattle.book.specs.Reading.{program_of}
 use Rattle.operator.specs.Page.{object_count, Meaning}

@@ -1,4 +1,4 @@
-use Rattle.std.proofs.Common.{◌≡◌, ◌<◌, length, refl, ◌∙◌, add-one, rules}
+use Rattle.std.proofs.Common.{◌<◌, length, refl, ◌∙◌, add-one, rules}
 use Rattle.inquiry.specs.declared.state.Side.TheVariants.{Out}
 use Rattle.inquiry.specs.declared.state.State.{State}
 use Rattle.inquiry.proofs.Tables.{live, put_walk}

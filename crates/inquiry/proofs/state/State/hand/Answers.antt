@@ -15,7 +15,7 @@ returns c =
     let en : n ≡ b.atoms = c.atoms-n.ensures.atoms in
     let ey : y ≡ z = ap₂ ◌+◌ en c.rules.ensures in
     record {
-      sheet = page_sheet b n y z en ey page c.write-sheet-2.new.sheet c.args.buffer.now c.write-sheet-2.ensures;
-      cursor = ap Some (sheet_front b (take z page) c.write-sheet.new.sheet _ (page_sheet b n y z en ey page c.write-sheet.new.sheet _ c.write-sheet.ensures));
+      sheet = page_sheet b n y z en ey page c.write_sheet-2.new.sheet c.args.buffer.now c.write_sheet-2.ensures;
+      cursor = ap Some (sheet_front b (take z page) c.write_sheet.new.sheet _ (page_sheet b n y z en ey page c.write_sheet.new.sheet _ c.write_sheet.ensures));
       rest = (refl, refl, refl, refl, refl);
     }

@@ -1,4 +1,4 @@
-use Rattle.std.proofs.Common.{◌≡◌, take, Some, ap, ◌∙◌, arith}
+use Rattle.std.proofs.Common.{take, Some, ap, ◌∙◌, arith}
 use Rattle.book.specs.Program.{Program}
 use Rattle.book.specs.Reading.{program_of}
 use Rattle.inquiry.specs.Calls.{fresh}

@@ -1,7 +1,6 @@
-use Rattle.std.proofs.Common.{◌≡◌, ◌∙◌}
+use Rattle.std.proofs.Common.{◌∙◌}
 use Rattle.book.specs.Reading.{program_of}
 use Rattle.book.proofs.Holding.{valid_book}
-use Rattle.inquiry.specs.declared.state.State.{State}
 use Rattle.inquiry.proofs.Stepping.{settled_then, low_marks, bounds, room, step_clash, step_retreat, step_choose, step_hand}
 use Rattle.inquiry.proofs.state.State.step.Goals as goal
 
