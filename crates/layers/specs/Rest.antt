@@ -1,4 +1,4 @@
--- What until_rest comes to. Assumes nothing.
+-- What until-rest comes to. Assumes nothing.
 use Rattle.std.specs.Prelude.{◌≡◌, ℕ, List}
 use Rattle.book.specs.Program.{Program, Valid}
 use Rattle.operator.specs.Page.{Page, marked, Meaning, Lawful}

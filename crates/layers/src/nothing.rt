@@ -1,6 +1,6 @@
 // The operator that derives nothing.
 ghost use Rattle.operator.specs.Layer.{idle};
-ghost use Rattle.std.proofs.Common.{rules};
+ghost use Rattle.operator.specs.Layers.{idle_lawful};
 
 use book::book::Book;
 use book::refusal::Refusal;
@@ -13,7 +13,7 @@ pub struct Nothing;
 impl Operator for Nothing {
     ghost meaning = { λ _. idle };
 
-    ghost lawful = { Prim.search rules };
+    ghost lawful = { λ x. idle_lawful };
 
     fn apply(&mut self, book: &Book, page: &mut [u8]) -> Result<Verdict, Refusal> {
         check_page(book, page)?;

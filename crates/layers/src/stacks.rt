@@ -56,7 +56,7 @@ impl Operator for Full {
     }
 }
 
-// Over any lawful operator until_rest comes to rest.
+// Over any lawful operator until-rest comes to rest.
 pub fn until_rest_rests()
     ensures { ComesToRest }
 {}

@@ -13,7 +13,7 @@ onward g b (marked q) = g b q
 abbrev pub sequence : Meaning → Meaning → Meaning
 sequence f g b p = onward g b (f b p)
 
--- until_rest: a clash ends it, and so does a page as it was
+-- until-rest: a clash ends it, and so does a page as it was
 abbrev pub settle : List ℕ → (List ℕ → Outcome) → Outcome → Outcome
 settle p more clash = clash
 settle p more (marked q) = elim (bytes_eq p q) [ true ↦ marked q | false ↦ more q ]

@@ -1,4 +1,4 @@
--- Every layer over lawful operators is lawful, and until_rest comes to rest.
+-- Every layer over lawful operators is lawful, and until-rest comes to rest.
 use Rattle.std.specs.Prelude.{◌≡◌, ℕ, zero, suc, ◌<◌, ◌≤◌, Bool, true, false, cond, List, length, nat_lt, slice_set, refl}
 use Rattle.std.proofs.Common.{sym, ◌∙◌, inl, inr, arith, lit≤}
 use Rattle.std.proofs.lemmas.Bool.{cases_Bool, both_ways, eqb-true}
@@ -60,7 +60,7 @@ looked_follows f L b p P G (suc k) l =
 pub lookahead_lawful : (f : Meaning) → Lawful f → Lawful (lookahead f)
 lookahead_lawful f L b P p G = looked_follows f L b p P G (object_count b) (omega arith)
 
--- the fuel suffices: the page that until_rest gives is at rest
+-- the fuel suffices: the page that until-rest gives is at rest
 
 pub settle_same : (p q : List ℕ) (more : List ℕ → Outcome) → bytes_eq p q ≡ true → settle p more (marked q) ≡ marked q
 settle_same p q more e = rw (e, settle) refl

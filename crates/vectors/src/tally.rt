@@ -1,8 +1,7 @@
 // What was run, and what came of it.
-
-// How many vectors of a set were run, and how many came out as expected.
 use anyhow::anyhow;
 
+// How many vectors of a set were run, and how many came out as expected.
 #[derive(Clone, Copy)]
 pub(crate) struct Tally {
     run: usize,
