@@ -4,3 +4,4 @@ pub mod Values
 pub mod Rounds
 pub mod Sheets
 pub mod Computing
+pub mod Chains

@@ -35,24 +35,28 @@ module _ (p : Program) (used : ℕ → Bool) where
         | inr z ↦ I t C a z
       ]
 
-  -- one rule more in a round
-  pub went_more : (k : ℕ) (xs zs ys : List Bool) (c r : Bool) → k < rule_count p → length zs ≡ 128
-      → Went p used k xs c zs → Added p used k zs r ys → Went p used (k + 1) xs (r || c) ys
-  went_more k xs zs ys true true l m w d =
-      let z = d.4 in
-      let f = fewer zs (nth_rule p k).head z (omega arith) d.3 in
-      let g = w.0 in
-      rw d.0 (omega arith, λ I. wider zs k l (omega arith) d.1 d.2 (w.1 I))
-  went_more k xs zs ys false true l m w d =
-      let z = d.4 in
-      let f = fewer zs (nth_rule p k).head z (omega arith) d.3 in
-      rw d.0 (
-        subst (λ ws. absent (set zs (nth_rule p k).head true) < absent ws) w.0 f,
-        λ I. wider zs k l (omega arith) d.1 d.2 (subst (Inner p used) (sym w.0) I),
-      )
-  went_more k xs zs ys true false l m w d = rw d.0 w
-  went_more k xs zs ys false false l m w d =
-      (d.0 ∙ w.0, below_more _ _ w.1 (subst (λ ws. Heeds p used ws k) w.0 d.1))
+  -- a rule gives its head to the flags
+  gives : (k : ℕ) (zs ys : List Bool) → k < rule_count p → length zs ≡ 128 → used k ≡ true → Added (nth_rule p k) zs true ys
+      → (absent ys < absent zs) × (Inner p used zs → Inner p used ys)
+  gives k zs ys l m u d =
+      let z = d.3 in
+      rw d.0 (fewer zs (nth_rule p k).head z (omega arith) d.2, λ I. wider zs k l (omega arith) u d.1 I)
+
+  -- one rule more in a round, that is used and gives its head
+  pub went_given : (k : ℕ) (xs zs ys : List Bool) (c : Bool) → k < rule_count p → length zs ≡ 128
+      → Went p used k xs c zs → used k ≡ true → Added (nth_rule p k) zs true ys → Went p used (k + 1) xs true ys
+  went_given k xs zs ys true l m w u d =
+      let g = gives k zs ys l m u d in
+      let f = w.0 in
+      let b = g.0 in
+      (omega arith, λ I. g.1 (w.1 I))
+  went_given k xs zs ys false l m w u d =
+      let g = gives k zs ys l m u d in (subst (λ ws. absent ys < absent ws) w.0 g.0, λ I. g.1 (subst (Inner p used) (sym w.0) I))
+
+  -- or that leaves the flags, which heed it
+  pub went_left : (k : ℕ) (xs zs ys : List Bool) (c : Bool) → Went p used k xs c zs → ys ≡ zs → Heeds p used zs k → Went p used (k + 1) xs c ys
+  went_left k xs zs ys true w e d = rw e w
+  went_left k xs zs ys false w e d = (e ∙ w.0, below_more _ _ w.1 (subst (λ ws. Heeds p used ws k) w.0 d))
 
 -- in a row of unset flags none is set
 pub none_flagged : (n a : ℕ) → flagged (replicate n false) a ≡ false

@@ -8,7 +8,8 @@ use Rattle.book.specs.Program.{Program, Proper, Valid, rule_count, nth_rule}
 use Rattle.answer.specs.Tests.{each_of, bit}
 use Rattle.answer.specs.Answer.{Sheet, inside, outside, reduct, Within, Closed, Least, Answer}
 use Rattle.answer.specs.Computed.{sheet_by}
-use Rattle.answer.proofs.Tests.{each_mono, each_same, all_below}
+use Rattle.book.proofs.Handing.{all_below}
+use Rattle.answer.proofs.Tests.{each_mono, each_same}
 use Rattle.answer.proofs.StrictOrder.{marked_low}
 
 -- an atom of a sheet is below its length

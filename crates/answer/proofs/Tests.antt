@@ -1,9 +1,7 @@
 -- Tests over lists of numbers and over the numbers below a bound.
 use Rattle.std.proofs.Common.{◌≡◌, ℕ, zero, suc, ◌<◌, ◌≤◌, Bool, true, false, List, length, get_or, Decides, sym, refl, ap, ◌∙◌, subst, inl, inr, arith, lit≤}
-use Rattle.std.specs.List.{AllByRecursion}
-use Rattle.std.proofs.lemmas.List.{get_or_past}
 use Rattle.std.proofs.ByRecursion.{All-get_or, All-from_get_or, Decides-by_and}
-use Rattle.std.proofs.lemmas.Bool.{both_ways, cases_Bool, cases_eq, cases_lt}
+use Rattle.std.proofs.lemmas.Bool.{cases_Bool, cases_eq}
 use Rattle.std.proofs.lemmas.Bool.Decides.{same_from_decides, Decides-like}
 use Rattle.answer.specs.Tests.{each_of, bit, how_many}
 
@@ -17,10 +15,6 @@ each_decides t xs =
     Decides-like (each_of t xs) (λ h i l. All-get_or (λ x. t x ≡ true) xs i 0 l h) (All-from_get_or (λ x. t x ≡ true) xs 0)
     (Decides-by_and t (λ x. t x ≡ true) (each_of t) (λ x. (λ e. e, λ e. e)) refl (λ _ _. refl) xs)
 
--- one place that fails makes the list fail
-pub each_fails : (t : ℕ → Bool) (xs : List ℕ) (i : ℕ) → i < length xs → t (get_or xs i 0) ≡ false → each_of t xs ≡ false
-each_fails t xs i l e = untrue (each_of t xs) (λ h. both_ways _ e ((each_decides t xs).0 h i l))
-
 -- what passes one test at each number of a list passes the other
 pub each_mono : (t u : ℕ → Bool) → ((x : ℕ) → t x ≡ true → u x ≡ true) → (xs : List ℕ) → each_of t xs ≡ true → each_of u xs ≡ true
 each_mono t u f xs e = (each_decides u xs).1 (λ i l. f (get_or xs i 0) ((each_decides t xs).0 e i l))
@@ -30,14 +24,6 @@ pub each_same : (t u : ℕ → Bool) (xs : List ℕ) → ((i : ℕ) → t (get_o
 each_same t u xs e =
     same_from_decides (each_of t xs) (each_of u xs) (each_decides t xs)
     (Decides-like (each_of u xs) (λ h i l. e i ∙ h i l) (λ h i l. sym (e i) ∙ h i l) (each_decides u xs))
-
--- numbers below n read at any place are below a bound that is no smaller
-pub all_below : (n m : ℕ) (xs : List ℕ) → n ≤ m → 0 < m → AllByRecursion (λ a. a < n) xs → (i : ℕ) → get_or xs i 0 < m
-all_below n m xs l z h i =
-    elim (cases_lt i (length xs)) [
-      | inl k ↦ let e = All-get_or (λ a. a < n) xs i 0 k h in omega arith
-      | inr k ↦ let e = get_or_past xs i 0 k in omega arith
-    ]
 
 -- a bit grows with its test
 bit_le : (x y : Bool) → (x ≡ true → y ≡ true) → bit x ≤ bit y

@@ -1,6 +1,6 @@
 -- What a round over the rules does to the atoms found so far: for the contracts inside this crate. Assumes nothing.
 use Rattle.std.specs.Prelude.{◌≡◌, ℕ, ◌<◌, Bool, true, false, not, List, slice_set}
-use Rattle.book.specs.Program.{Program, nth_rule, headed}
+use Rattle.book.specs.Program.{ProgramRule, Program, nth_rule, headed}
 use Rattle.answer.specs.Tests.{each_of, how_many}
 use Rattle.answer.specs.Answer.{Within, Closed}
 use Rattle.answer.specs.Flags.{flagged}
@@ -18,12 +18,10 @@ Inner p used xs = (t : ℕ → Bool) → Closed p used t → Within (flagged xs)
 unfoldable pub absent : List Bool → ℕ
 absent xs = how_many (λ a. not (flagged xs a)) 128
 
--- rule k gave its head to the flags, or had nothing to give
-abbrev pub Added : Program → (ℕ → Bool) → ℕ → List Bool → Bool → List Bool → Type 0
-Added p used k xs true ys =
-    (ys ≡ slice_set xs (nth_rule p k).head true) × (used k ≡ true) × (each_of (flagged xs) (nth_rule p k).positives ≡ true)
-    × (headed (flagged xs) (nth_rule p k) ≡ false) × ((nth_rule p k).head < 128)
-Added p used k xs false ys = (ys ≡ xs) × Heeds p used xs k
+-- a rule gave its head to the flags, or had nothing to give
+abbrev pub Added : ProgramRule → List Bool → Bool → List Bool → Type 0
+Added r xs true ys = (ys ≡ slice_set xs r.head true) × (each_of (flagged xs) r.positives ≡ true) × (headed (flagged xs) r ≡ false) × (r.head < 128)
+Added r xs false ys = (ys ≡ xs) × (each_of (flagged xs) r.positives ≡ true → headed (flagged xs) r ≡ true)
 
 -- the first k rules gave something, or the flags are as before and heed each of these rules
 abbrev pub Went : Program → (ℕ → Bool) → ℕ → List Bool → Bool → List Bool → Type 0

@@ -9,12 +9,12 @@ ghost use Rattle.answer.specs.Computed.{Computed};
 ghost use Rattle.answer.specs.Fault.{sheet_fault};
 ghost use Rattle.answer.specs.Flags.{flagged};
 
-use crate::flags::{AtomFlags, RuleFlags, all_flagged, nth_rule};
+use crate::flags::{AtomFlags, RuleFlags, all_flagged, rule_flags};
 use crate::least::least_atoms;
 use crate::sheet::{byte_at, check_sheet};
 use book::book::Book;
-use book::limits::{MAX_ATOMS, MAX_RULES};
 use book::refusal::Refusal;
+use std::array;
 
 // Whether the sheet is an answer set of the book. Declined if it is no sheet over the book's atoms.
 pub fn check(book: &Book, sheet: &[u8]) -> Result<bool, Refusal>
@@ -22,20 +22,13 @@ pub fn check(book: &Book, sheet: &[u8]) -> Result<bool, Refusal>
     ensures answers { IfOk result (λ t. Decides t (Answer (program_of book.now) sheet.now)) }
     ensures computed { Computed }
 {
-    see_computed();
     check_sheet(book.atoms(), sheet)?;
     Ok(is_answer_set(book, sheet))
 }
 
-// What computes the smallest closed set and the test for an answer set is right.
-fn see_computed()
-    ensures { Computed }
-{}
-
 // Compares the sheet with the smallest set closed under its reduct.
 fn is_answer_set(book: &Book, sheet: &[u8]) -> bool
-    requires valid { Valid (program_of book.now) }
-    requires sheet { Sheet (program_of book.now).atoms sheet.now }
+    requires { Sheet (program_of book.now).atoms sheet.now }
     ensures { Decides result (Answer (program_of book.now) sheet.now) }
 {
     let out = outside_atoms(sheet);
@@ -48,32 +41,14 @@ fn is_answer_set(book: &Book, sheet: &[u8]) -> bool
 fn outside_atoms(sheet: &[u8]) -> AtomFlags
     ensures { (a : ℕ) → a < 128 → flagged result a ≡ outside sheet.now a }
 {
-    let mut out = [false; MAX_ATOMS];
-    for a in 0..MAX_ATOMS {
-        out[a] = byte_at(sheet, a) != 1;
-    }
-    out
+    array::from_fn(|a| byte_at(sheet, a) != 1)
 }
 
-// The rules that the reduct keeps, with the atoms that are out.
+// The rules that the reduct keeps, with the atoms that are out: those whose negative atoms are all out.
 fn reduct_rules(book: &Book, out: &AtomFlags) -> RuleFlags
     ensures { (k : ℕ) → k < rule_count (program_of book.now) → flagged result k ≡ each_of (flagged out.now) (nth_rule (program_of book.now) k).negatives }
 {
-    let mut used = [false; MAX_RULES];
-    for k in 0..book.rules() {
-        used[k] = is_kept(book, k, out);
-    }
-    used
-}
-
-// Whether the reduct keeps rule k: its negative atoms are all out.
-fn is_kept(book: &Book, k: usize, out: &AtomFlags) -> bool
-    requires { k < rule_count (program_of book.now) }
-    ensures number { k < 256 }
-    ensures kept { result ≡ each_of (flagged out.now) (nth_rule (program_of book.now) k).negatives }
-{
-    let rule = nth_rule(book, k);
-    all_flagged(rule.negatives, out)
+    rule_flags(book, |_, rule| all_flagged(rule.negatives, out))
 }
 
 // Whether the flags are those of the atoms in the sheet.
@@ -81,10 +56,8 @@ fn same_atoms(sheet: &[u8], flags: &AtomFlags) -> bool
     requires { length sheet.now ≤ 128 }
     ensures { Decides result ((a : ℕ) → a < length sheet.now → flagged flags.now a ≡ inside sheet.now a) }
 {
-    for a in 0..sheet.len() {
-        if flags[a] != (sheet[a] == 1) {
-            return false;
-        }
-    }
-    true
+    sheet
+        .iter()
+        .zip(flags)
+        .all(|(&value, &flag)| flag == (value == 1))
 }

@@ -1,51 +1,45 @@
 // Sets of atoms and of rules as flags, one for each that a book may have.
-ghost use Rattle.std.specs.Prelude.{◌≡◌, ℕ, ◌<◌, slice_index};
-ghost use Rattle.book.specs.Program.{rule_count, nth_rule};
+ghost use Rattle.std.specs.Prelude.{◌≡◌, ℕ, ◌<◌};
+ghost use Rattle.book.specs.declared.book.rules.Rule.{Rule};
+ghost use Rattle.book.specs.Program.{rule_count};
 ghost use Rattle.book.specs.Layout.{words};
-ghost use Rattle.book.specs.Reading.{program_of, rule_of};
+ghost use Rattle.book.specs.Reading.{program_of};
+ghost use Rattle.book.specs.Handing.{IsRule};
 ghost use Rattle.answer.specs.Tests.{each_of};
 ghost use Rattle.answer.specs.Flags.{flagged};
 
 use book::book::Book;
-use book::book::rules::{Rule, atom_at};
+use book::book::iter::Atoms;
+use book::book::rules::Rule;
 use book::limits::{MAX_ATOMS, MAX_RULES};
 
+// Arrays of fixed size, since nothing is allocated.
 pub type AtomFlags = [bool; MAX_ATOMS];
 
 pub type RuleFlags = [bool; MAX_RULES];
-
-// Rule k of the book, whose atoms all have a flag.
-pub(crate) fn nth_rule<'a>(book: &Book<'a>, k: usize) -> Rule<'a>
-    requires { k < rule_count (program_of book.now) }
-    ensures rule { rule_of result ≡ nth_rule (program_of book.now) k }
-    ensures number { k < 256 }
-    ensures head { result.head < 128 }
-    ensures positives { (i : ℕ) → slice_index (words result.positives.now) i < 128 }
-    ensures negatives { (i : ℕ) → slice_index (words result.negatives.now) i < 128 }
-{
-    // A book in use is within its limits, which `atoms` says.
-    let _ = book.atoms();
-    let Ok(rule) = book.rule(k) else {
-        unreachable()
-    };
-    rule
-}
 
 // Whether the atom has its flag; past the flags none has.
 pub fn is_flagged(flags: &AtomFlags, atom: usize) -> bool
     ensures { result ≡ flagged flags.now atom }
 {
-    if atom < MAX_ATOMS { flags[atom] } else { false }
+    flags.get(atom).copied().unwrap_or(false)
 }
 
 // Whether every atom of a part has its flag.
 pub fn all_flagged(part: &[u8], flags: &AtomFlags) -> bool
     ensures { result ≡ each_of (flagged flags.now) (words part.now) }
 {
-    for i in 0..part.len() / 2 {
-        if !is_flagged(flags, atom_at(part, i)) {
-            return false;
-        }
+    Atoms::of(part).all(|atom| is_flagged(flags, atom))
+}
+
+// A flag for each rule of the book that passes a test of its number and of what it says.
+pub fn rule_flags<F: Fn(usize, Rule) -> bool>(book: &Book, test: F) -> RuleFlags
+    requires { (k : ℕ) (x : Rule) → IsRule book.now k x → F.pre test k x }
+    ensures { (k : ℕ) → k < rule_count (program_of book.now) → (x : Rule) × IsRule book.now k x × F.post test k x (flagged result k) }
+{
+    let mut flags = [false; MAX_RULES];
+    for (k, rule) in book.iter().enumerate() {
+        flags[k] = test(k, rule);
     }
-    true
+    flags
 }

@@ -1,14 +1,15 @@
 // The smallest set of atoms closed under some of a book's rules, found in rounds over the rules.
 // Callers rest on what it is, not on the rounds.
 ghost use Rattle.std.specs.Prelude.{◌≡◌, ◌<◌, false, replicate};
-ghost use Rattle.book.specs.Program.{rule_count};
-ghost use Rattle.book.specs.Reading.{program_of};
+ghost use Rattle.book.specs.Program.{rule_count, Valid};
+ghost use Rattle.book.specs.Reading.{program_of, rule_of};
 ghost use Rattle.answer.specs.Answer.{Least};
 ghost use Rattle.answer.specs.Flags.{flagged};
 ghost use Rattle.answer.specs.Rounds.{Added, Went};
 
-use crate::flags::{AtomFlags, RuleFlags, all_flagged, nth_rule};
+use crate::flags::{AtomFlags, RuleFlags, all_flagged};
 use book::book::Book;
+use book::book::rules::Rule;
 use book::limits::MAX_ATOMS;
 
 // The smallest set closed under the positive parts of the rules that are used.
@@ -33,21 +34,20 @@ fn round(book: &Book, used: &RuleFlags, flags: &mut AtomFlags) -> bool
     ensures { Went (program_of book.now) (flagged used.now) (rule_count (program_of book.now)) flags.old result flags.new }
 {
     let mut joined = false;
-    for k in 0..book.rules() {
-        if add_head(book, used, k, flags) {
+    for (k, rule) in book.iter().enumerate() {
+        if used[k] && add_head(rule, flags) {
             joined = true;
         }
     }
     joined
 }
 
-// Adds the head of rule k if the rule is used and its positive atoms are there, and says whether it is new.
-fn add_head(book: &Book, used: &RuleFlags, k: usize, flags: &mut AtomFlags) -> bool
-    requires { k < rule_count (program_of book.now) }
-    ensures { Added (program_of book.now) (flagged used.now) k flags.old result flags.new }
+// Adds the head of a rule if its positive atoms are there, and says whether it is new.
+fn add_head(rule: Rule, flags: &mut AtomFlags) -> bool
+    requires { rule.head < 128 }
+    ensures { Added (rule_of rule.entry) flags.old result flags.new }
 {
-    let rule = nth_rule(book, k);
-    if !used[k] || flags[rule.head] || !all_flagged(rule.positives, flags) {
+    if flags[rule.head] || !all_flagged(rule.positives, flags) {
         return false;
     }
     flags[rule.head] = true;

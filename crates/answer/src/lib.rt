@@ -1,7 +1,8 @@
 //! Answer sets of a book.
 //!
 //! `check` says whether a sheet is an answer set, `check_sheet` whether bytes are a sheet at all.
-//! `least_atoms` gives the smallest set closed under some of the rules, and `smaller` is the order of sheets.
+//! `rule_flags` chooses rules by a test, `least_atoms` gives the smallest set closed under the chosen ones, and
+//! `smaller` is the order of sheets.
 #![tactic(auto)]
 
 pub mod check;

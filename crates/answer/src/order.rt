@@ -5,26 +5,20 @@ ghost use Rattle.answer.specs.Order.{Smaller, StrictTotal};
 use crate::sheet::byte_at;
 
 // Whether the first of two sheets is the smaller: bytes past the end of a sheet count as 0.
+// Not the order of slices: there a longer sheet is larger than its beginning, and any two bytes decide.
 pub fn smaller(a: &[u8], b: &[u8]) -> bool
     ensures decides { Decides result (Smaller a.now b.now) }
     ensures order { (n : ℕ) → StrictTotal n }
 {
-    see_order();
     is_smaller(a, b)
 }
-
-// The order is strict and total on the sheets of one length.
-fn see_order()
-    ensures { (n : ℕ) → StrictTotal n }
-{}
 
 // Found at the lowest index where they differ.
 fn is_smaller(a: &[u8], b: &[u8]) -> bool
     ensures { Decides result (Smaller a.now b.now) }
 {
-    for i in 0..b.len() {
+    for (i, &y) in b.iter().enumerate() {
         let x = byte_at(a, i);
-        let y = b[i];
         if x != y {
             return is_step(x, y);
         }

@@ -31,8 +31,8 @@ fn check_values(most: u8, bytes: &[u8]) -> Result<(), Refusal>
     ensures declines { result_err result ≡ values_fault most bytes.now (length bytes.now) }
     ensures small { OnOk result ((i : ℕ) → slice_index bytes.now i ≤ most) }
 {
-    for i in 0..bytes.len() {
-        check_value(most, i, bytes[i])?;
+    for (i, &value) in bytes.iter().enumerate() {
+        check_value(most, i, value)?;
     }
     Ok(())
 }
@@ -50,5 +50,5 @@ fn check_value(most: u8, i: usize, value: u8) -> Result<(), Refusal>
 pub(crate) fn byte_at(bytes: &[u8], i: usize) -> u8
     ensures { result ≡ slice_index bytes.now i }
 {
-    if i < bytes.len() { bytes[i] } else { 0 }
+    bytes.get(i).copied().unwrap_or(0)
 }

@@ -3,7 +3,7 @@ use Rattle.std.proofs.Common.{◌≡◌, ℕ, ◌<◌, List, IfOk, Some, None, O
 use Rattle.std.specs.Result.{result_err}
 use Rattle.book.specs.declared.book.Book.{Book}
 use Rattle.book.specs.declared.book.rules.Rule.{Rule}
-use Rattle.book.specs.declared.header.Counts.{Counts}
+use Rattle.book.specs.declared.header.Header.{Header}
 use Rattle.book.specs.declared.faults.RuleFault.{RuleFault}
 use Rattle.book.specs.Program.{Program, nth_rule, ProperRule, Valid}
 use Rattle.book.specs.Layout.{rules_in, head_at, positive_part, negative_part, decode}
@@ -36,10 +36,12 @@ holds_none bs f e p w =
     let z : ◌≡◌ {A = ℕ} 0 1 = cc in
     omega arith
 
-pub judged : (r : Result Counts RuleFault) (bs : List ℕ) → Bytes bs → result_err r ≡ layout_fault bs → IfOk r (λ c. Counted bs c)
+pub judged : (r : Result Header RuleFault) (bs : List ℕ) → Bytes bs → result_err r ≡ layout_fault bs → IfOk r (λ h. h.bytes.now ≡ bs)
     → MatchResult r (λ _. Holds bs (decode bs)) (λ _. HoldsNone bs)
-judged (Ok c) bs byte e h = holds bs byte h.3 h.4 (sym e)
-judged (Err f) bs byte e h = holds_none bs f (sym e)
+judged (Ok h) bs byte e g =
+    let w : Counted bs h.atoms h.rules h.literals = rw g at h.counted in
+    holds bs byte w.limits w.long (sym e)
+judged (Err f) bs byte e g = holds_none bs f (sym e)
 
 pub different : DifferentForms
 different p q e = sym (decode-encode p) ∙ ap decode e ∙ decode-encode q

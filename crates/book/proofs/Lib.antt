@@ -7,3 +7,4 @@ pub mod Encodes
 pub mod RoundTrip
 pub mod Decodes
 pub mod Holding
+pub mod Handing

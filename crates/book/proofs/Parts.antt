@@ -20,6 +20,29 @@ words_at xs i h = get_or-map-range_with_len (λ i. word xs (2 * i)) 0 (length xs
 pub words_past : (xs : List ℕ) (i : ℕ) → length xs / 2 ≤ i → get_or (words xs) i 0 ≡ 0
 words_past xs i h = get_or_past (words xs) i 0 (omega (arith, words-length xs))
 
+first_at : (xs : List ℕ) (i : ℕ) → 2 ≤ length xs → i < length xs / 2 → get_or (word xs 0 ∷ words (drop 2 xs)) i 0 ≡ word xs (2 * i)
+first_at xs zero h l = refl
+first_at xs (suc i) h l =
+    let e : 2 + 2 * i ≡ 2 * suc i = omega arith in
+    let g : 2 + (2 * i + 1) ≡ 2 * suc i + 1 = omega arith in
+    let n = length-drop 2 xs in
+    words_at (drop 2 xs) i (omega arith)
+    ∙ ap₂ (λ lo hi. lo + 256 * hi) (get_or-drop 2 xs (2 * i) 0 ∙ ap (λ j. get_or xs j 0) e) (get_or-drop 2 xs (2 * i + 1) 0 ∙ ap (λ j. get_or xs j 0) g)
+
+-- a part of two bytes or more has its first atom, and then those of what follows
+pub words_first : (xs : List ℕ) → 2 ≤ length xs → words xs ≡ word xs 0 ∷ words (drop 2 xs)
+unfolding words
+words_first xs h =
+    let n = length-drop 2 xs in
+    let w = words-length (drop 2 xs) in
+    sym (fill_by_all (λ i. word xs (2 * i)) (word xs 0 ∷ words (drop 2 xs)) (length xs / 2) 0 (omega arith)
+    (λ i k. first_at xs i h (omega arith)))
+
+-- a part of fewer bytes has no atom
+pub words_none : (xs : List ℕ) → length xs < 2 → words xs ≡ []
+unfolding words
+words_none xs h = let z : length xs / 2 ≡ 0 = omega arith in rw z
+
 -- the bytes of c literals from literal q on
 abbrev pub part : List ℕ → ℕ → ℕ → List ℕ
 part bs q c = take (2 * c) (drop (literal_from bs q) bs)

@@ -7,3 +7,4 @@ pub mod Diagnosis
 pub mod Invariant
 pub mod Counted
 pub mod Reading
+pub mod Handing

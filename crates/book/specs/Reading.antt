@@ -1,10 +1,14 @@
 -- What a book in use holds, and what bytes hold. Assumes nothing.
-use Rattle.std.specs.Prelude.{◌≡◌, ℕ, List}
+use Rattle.std.specs.Prelude.{◌≡◌, ℕ, List, Result, IfOk, MatchResult}
+use Rattle.std.specs.Borrow.{Bor}
+use Rattle.std.specs.Result.{result_err}
 use Rattle.book.specs.declared.book.Book.{Book}
 use Rattle.book.specs.declared.book.rules.Rule.{Rule}
+use Rattle.book.specs.declared.faults.BookFault.{BookFault}
 use Rattle.book.specs.Program.{ProgramRule, Program, Valid}
 use Rattle.book.specs.Format.{encode}
 use Rattle.book.specs.Layout.{words, decode}
+use Rattle.book.specs.Diagnosis.{diagnose}
 
 -- the bytes that a book in use was read from, and its program
 abbrev pub held : Book → List ℕ
@@ -34,3 +38,10 @@ HoldsNone bs = (p : Program) → Written p bs → ⊥
 -- different programs have different written forms
 abbrev pub DifferentForms : Type 0
 DifferentForms = (p q : Program) → encode p ≡ encode q → p ≡ q
+
+-- what reading bytes comes to: the first fault, or the book of these very bytes, whose program they are the written form of
+pub record Reads (bytes : Bor (List ℕ)) (r : Result Book BookFault) : Type 0 where
+  pub declines : result_err r ≡ diagnose bytes.now
+  pub holds : MatchResult r (λ b. Holds bytes.now (program_of b)) (λ _. HoldsNone bytes.now)
+  pub held : IfOk r (λ b. held b ≡ bytes.now)
+  pub different : DifferentForms

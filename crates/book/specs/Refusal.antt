@@ -65,3 +65,7 @@ in_book f = record { layer = cause_layer f.field.cause; fault = f }
 abbrev pub fault_line : BookFault → List ℕ
 fault_line f =
     codes "fault " ++ (decimal (layer_number f.layer) ++ (codes " " ++ (decimal (cause_number f.fault.field.cause) ++ (codes " " ++ decimal f.fault.field.place))))
+
+-- the line that a refusal is reported by: cause and place
+abbrev pub refusal_line : Refusal → List ℕ
+refusal_line r = codes "fault " ++ (decimal (cause_number r.cause) ++ (codes " " ++ decimal r.place))

@@ -1,13 +1,12 @@
 // Layer 3: the literals of the bodies.
 ghost use Rattle.std.specs.Prelude.{◌≡◌, ◌+◌, ◌*◌, ◌<◌, ◌≤◌, length, None};
 ghost use Rattle.std.specs.Result.{result_err};
-ghost use Rattle.book.specs.Layout.{word, place_at, positives_at, atoms_in, rules_in};
-ghost use Rattle.book.specs.Counted.{Counted};
+ghost use Rattle.book.specs.Layout.{word, place_at, positives_at};
 ghost use Rattle.book.specs.Diagnosis.{entries_fault, literal_fault, bodies_fault};
 
 use crate::contents::{Entry, entry_at};
 use crate::faults::RuleFault;
-use crate::header::Counts;
+use crate::header::Header;
 use crate::refusal::{Cause, Refusal};
 
 // The two-byte number at byte i.
@@ -18,49 +17,41 @@ pub(crate) fn word_at(bytes: &[u8], i: usize) -> usize
     usize::from(u16::from_le_bytes([bytes[i], bytes[i + 1]]))
 }
 
-// Literal i of rule k, whose entry is given.
-fn check_literal(
-    bytes: &[u8],
-    counts: Counts,
-    k: usize,
-    entry: Entry,
-    i: usize,
-) -> Result<(), Refusal>
-    requires counted { (counts.atoms ≡ atoms_in bytes.now) × (counts.rules ≡ rules_in bytes.now) × (counts.rules ≤ 256) }
-    requires entry { (entry.place ≡ place_at bytes.now k) × (entry.positives ≡ positives_at bytes.now k) }
-    requires within { (entry.place + i < 2048) × (6 + 6 * counts.rules + 2 * (entry.place + i) + 2 ≤ length bytes.now) }
-    ensures { result_err result ≡ literal_fault bytes.now k i }
-{
-    let byte = 6 + 6 * counts.rules + 2 * (entry.place + i);
-    let atom = word_at(bytes, byte);
-    if atom >= counts.atoms {
-        return Err(Refusal::new(Cause::Range, byte));
+impl Header<'_> {
+    // Literal i of rule k, whose entry is given. A draft has a test of its own: it has numbers, and no place in bytes.
+    fn check_literal(&self, k: usize, entry: Entry, i: usize) -> Result<(), Refusal>
+        requires entry { (entry.place ≡ place_at self.now.bytes.now k) × (entry.positives ≡ positives_at self.now.bytes.now k) }
+        requires within { entry.place + i < self.now.literals }
+        ensures { result_err result ≡ literal_fault self.now.bytes.now k i }
+    {
+        let byte = 6 + 6 * self.rules + 2 * (entry.place + i);
+        let atom = word_at(self.bytes, byte);
+        if atom >= self.atoms {
+            return Err(Refusal::new(Cause::Range, byte));
+        }
+        let starts = i == 0 || i == entry.positives;
+        if !starts && atom <= word_at(self.bytes, byte - 2) {
+            return Err(Refusal::new(Cause::Order, byte));
+        }
+        Ok(())
     }
-    let starts = i == 0 || i == entry.positives;
-    if !starts && atom <= word_at(bytes, byte - 2) {
-        return Err(Refusal::new(Cause::Order, byte));
-    }
-    Ok(())
-}
 
-// Layer 3: the first literal, rule by rule, that breaks a condition.
-pub(crate) fn check_bodies(bytes: &[u8], counts: Counts) -> Result<(), RuleFault>
-    requires { Counted bytes.now counts × (entries_fault bytes.now counts.rules ≡ None) }
-    ensures { result_err result ≡ bodies_fault bytes.now counts.rules }
-{
-    let found = 'rules: {
-        for k in 0..counts.rules {
-            let entry = entry_at(bytes, k);
-            for i in 0..entry.positives + entry.negatives {
-                if let Err(field) = check_literal(bytes, counts, k, entry, i) {
-                    break 'rules Some(RuleFault::in_rule(k, field));
+    // Layer 3: the first literal, rule by rule, that breaks a condition.
+    pub(crate) fn check_bodies(&self) -> Result<(), RuleFault>
+        requires { entries_fault self.now.bytes.now self.now.rules ≡ None }
+        ensures { result_err result ≡ bodies_fault self.now.bytes.now self.now.rules }
+    {
+        // By the numbers of rule and literal, which say where a literal stands and what a fault names.
+        'rules: {
+            for k in 0..self.rules {
+                let entry = entry_at(self.bytes, k);
+                for i in 0..entry.positives + entry.negatives {
+                    if let Err(field) = self.check_literal(k, entry, i) {
+                        break 'rules Err(RuleFault::in_rule(k, field));
+                    }
                 }
             }
+            Ok(())
         }
-        None
-    };
-    match found {
-        None => Ok(()),
-        Some(fault) => Err(fault),
     }
 }

@@ -5,6 +5,7 @@ ghost use Rattle.book.specs.Program.{rule_count};
 ghost use Rattle.book.specs.Layout.{rules_in, decode};
 ghost use Rattle.book.specs.Invariant.{Limits, Long, Heads, Places, Claimed, Literals, Ascending};
 
+pub mod iter;
 mod reading;
 pub mod rules;
 

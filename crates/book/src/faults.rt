@@ -3,14 +3,15 @@ ghost use Rattle.std.specs.Prelude.{◌≡◌, Some};
 ghost use Rattle.book.specs.Refusal.{cause_layer, layer_number, in_no_rule, in_rule, in_book, fault_line};
 
 use crate::refusal::{Cause, Refusal};
+use std::error::Error;
 use std::fmt;
 
-// The layers of a book, in the order in which they are read.
+// The layers of a book, in the order in which they are read, with the number by which each is known.
 #[derive(Clone, Copy, PartialEq, Eq, Debug)]
 pub enum Layer {
-    Header,
-    Contents,
-    Bodies,
+    Header = 1,
+    Contents = 2,
+    Bodies = 3,
 }
 
 // The fault of a field, with the number of the rule that the field belongs to, if it belongs to one.
@@ -28,18 +29,14 @@ pub struct BookFault {
 }
 
 impl Layer {
-    // The number by which the layer is known.
+    // 1, 2 or 3. `as` wants the type itself, so no generic function serves all enums with numbers.
     pub fn number(self) -> u8
         ensures { result ≡ layer_number self }
     {
-        match self {
-            Layer::Header => 1,
-            Layer::Contents => 2,
-            Layer::Bodies => 3,
-        }
+        self as u8
     }
 
-    // The layer in which reading finds the cause.
+    // The layer in which reading finds the cause. No `From`, since callers have causes that belong to no layer.
     fn of(cause: Cause) -> Layer
         ensures { result ≡ cause_layer cause }
     {
@@ -91,3 +88,5 @@ impl fmt::Display for BookFault {
         write!(f, "fault {layer} {cause} {place}")
     }
 }
+
+impl Error for BookFault {}

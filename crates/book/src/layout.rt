@@ -2,39 +2,29 @@
 ghost use Rattle.std.specs.Prelude.{◌≡◌, IfOk, MatchResult};
 ghost use Rattle.std.specs.Result.{result_err};
 ghost use Rattle.book.specs.Layout.{decode};
-ghost use Rattle.book.specs.Counted.{Counted};
-ghost use Rattle.book.specs.Invariant.{Bytes};
 ghost use Rattle.book.specs.Reading.{Holds, HoldsNone, DifferentForms};
 ghost use Rattle.book.specs.Diagnosis.{layout_fault};
 
-use crate::bodies::check_bodies;
-use crate::contents::check_entries;
 use crate::faults::RuleFault;
-use crate::header::{Counts, read_header};
+use crate::header::Header;
 
-fn check_layers(bytes: &[u8]) -> Result<Counts, RuleFault>
+// Both hand on the header that reading made, and so say again whose bytes it holds.
+fn check_layers(bytes: &[u8]) -> Result<Header<'_>, RuleFault>
     ensures declines { result_err result ≡ layout_fault bytes.now }
-    ensures counts { IfOk result (λ c. Counted bytes.now c) }
+    ensures bytes { IfOk result (λ h. h.bytes.now ≡ bytes.now) }
 {
-    let counts = read_header(bytes)?;
-    check_entries(bytes, counts)?;
-    check_bodies(bytes, counts)?;
-    Ok(counts)
+    let header = Header::read(bytes)?;
+    header.check_entries()?;
+    header.check_bodies()?;
+    Ok(header)
 }
 
-// A clause knows an element of a slice for a byte only after the slice was read.
-fn see_bytes(bytes: &[u8])
-    ensures { Bytes bytes.now }
-{
-    let _ = bytes.first();
-}
-
-pub(crate) fn check_layout(bytes: &[u8]) -> Result<Counts, RuleFault>
+// What the diagnosis means, said of all exits of the layers at once.
+pub(crate) fn check_layout(bytes: &[u8]) -> Result<Header<'_>, RuleFault>
     ensures declines { result_err result ≡ layout_fault bytes.now }
-    ensures counts { IfOk result (λ c. Counted bytes.now c) }
+    ensures bytes { IfOk result (λ h. h.bytes.now ≡ bytes.now) }
     ensures holds { MatchResult result (λ _. Holds bytes.now (decode bytes.now)) (λ _. HoldsNone bytes.now) }
     ensures different { DifferentForms }
 {
-    see_bytes(bytes);
     check_layers(bytes)
 }

@@ -1,61 +1,49 @@
 // Refusals: why a call is declined, and where. Every call of every crate declines by these causes.
-ghost use Rattle.std.specs.Prelude.{◌≡◌};
-ghost use Rattle.book.specs.Refusal.{cause_number};
+ghost use Rattle.std.specs.Prelude.{◌≡◌, Some};
+ghost use Rattle.book.specs.Refusal.{cause_number, refusal_line};
 
-// Why a call is declined.
+use std::error::Error;
+use std::fmt;
+
+// Why a call is declined, with the number by which the refusal is known.
 #[derive(Clone, Copy, PartialEq, Eq, Debug)]
 pub enum Cause {
     // a book of fewer than six bytes
-    Short,
+    Short = 1,
     // more atoms, rules or literals than a book may have
-    Limit,
+    Limit = 2,
     // a book that is not as long as its counts ask for
-    BookLength,
+    BookLength = 3,
     // a head that is no atom
-    Head,
+    Head = 4,
     // a body that does not begin where the one before it ends
-    Place,
+    Place = 5,
     // a body that ends past the literals
-    Count,
+    Count = 6,
     // literals that belong to no rule
-    Unclaimed,
+    Unclaimed = 7,
     // an atom or a rule that the book does not have
-    Range,
+    Range = 8,
     // an atom that does not ascend within its part
-    Order,
+    Order = 9,
     // a draft with no room for the rule
-    Full,
+    Full = 10,
     // a buffer that is too short
-    Buffer,
+    Buffer = 11,
     // an allowance of no steps, or of too many
-    Allowance,
+    Allowance = 12,
     // a byte or a value that stands for nothing
-    Value,
+    Value = 13,
     // a sheet or a page of the wrong length
-    Length,
+    Length = 14,
 }
 
 impl Cause {
-    // The number by which the refusal is known.
+    // The number of the one table. `as` wants the type itself, so no generic function serves all enums with numbers.
     pub fn number(self) -> u8
         ensures { result ≡ cause_number self }
     {
-        match self {
-            Cause::Short => 1,
-            Cause::Limit => 2,
-            Cause::BookLength => 3,
-            Cause::Head => 4,
-            Cause::Place => 5,
-            Cause::Count => 6,
-            Cause::Unclaimed => 7,
-            Cause::Range => 8,
-            Cause::Order => 9,
-            Cause::Full => 10,
-            Cause::Buffer => 11,
-            Cause::Allowance => 12,
-            Cause::Value => 13,
-            Cause::Length => 14,
-        }
+        self as u8
     }
 }
 
@@ -73,3 +61,15 @@ impl Refusal {
         Refusal { cause, place }
     }
 }
+
+impl fmt::Display for Refusal {
+    ghost output = { λ r. Some (refusal_line r) };
+
+    fn fmt<W: fmt::Write>(&self, f: &mut fmt::Formatter<W>) -> fmt::Result {
+        let cause = self.cause.number();
+        let place = self.place;
+        write!(f, "fault {cause} {place}")
+    }
+}
+
+impl Error for Refusal {}

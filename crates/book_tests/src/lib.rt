@@ -1,6 +1,8 @@
 //! The reader on worked examples. The book of the odd loop has one rule, x if not x.
 #![tactic(auto)]
 
+ghost use Rattle.std.specs.Prelude.{◌<◌};
+
 #[cfg(test)]
 mod tests {
     use book::book::Book;
@@ -22,10 +24,23 @@ mod tests {
         Err(BookFault { layer, fault })
     }
 
+    // The book of the odd loop, in use.
+    fn odd_loop() -> Result<Book<'static>, BookFault> {
+        Book::try_from(&ODD_LOOP[..])
+    }
+
+    // What reading answers to the odd loop with another byte at a place.
+    fn read_changed(place: usize, byte: u8) -> Result<(), BookFault>
+        requires { place < 14 }
+    {
+        let mut bytes = ODD_LOOP;
+        bytes[place] = byte;
+        Book::empty().read(&bytes)
+    }
+
     #[test]
     fn the_odd_loop_is_one_rule_without_positive_atoms(rt: HostRuntime) -> Result<(), Fail> {
-        let mut book = Book::empty();
-        book.read(&ODD_LOOP)?;
+        let book = odd_loop()?;
         assert_eq!(rt; book.atoms(), 1);
         assert_eq!(rt; book.rules(), 1);
         let rule = book.rule(0)?;
@@ -44,18 +59,18 @@ mod tests {
 
     #[test]
     fn a_head_is_an_atom(rt: HostRuntime) {
-        let mut bytes = ODD_LOOP;
-        bytes[6] = 1;
-        let read = Book::empty().read(&bytes);
-        assert_eq!(rt; read, fault(Layer::Contents, Some(0), Cause::Head, 6));
+        assert_eq!(rt;
+            read_changed(6, 1),
+            fault(Layer::Contents, Some(0), Cause::Head, 6)
+        );
     }
 
     #[test]
     fn a_literal_is_an_atom(rt: HostRuntime) {
-        let mut bytes = ODD_LOOP;
-        bytes[13] = 1;
-        let read = Book::empty().read(&bytes);
-        assert_eq!(rt; read, fault(Layer::Bodies, Some(0), Cause::Range, 12));
+        assert_eq!(rt;
+            read_changed(13, 1),
+            fault(Layer::Bodies, Some(0), Cause::Range, 12)
+        );
     }
 
     #[test]
@@ -68,8 +83,7 @@ mod tests {
 
     #[test]
     fn a_declined_book_leaves_the_one_in_use(rt: HostRuntime) -> Result<(), Fail> {
-        let mut book = Book::empty();
-        book.read(&ODD_LOOP)?;
+        let mut book = odd_loop()?;
         assert!(rt; book.read(&[0, 0, 0]).is_err());
         assert_eq!(rt; book.rules(), 1);
         Ok(())
@@ -77,14 +91,8 @@ mod tests {
 
     #[test]
     fn a_rule_has_a_number_below_their_count(rt: HostRuntime) -> Result<(), Fail> {
-        let mut book = Book::empty();
-        book.read(&ODD_LOOP)?;
-        match book.rule(1) {
-            Ok(_) => Err(Fail::new("there is one rule")),
-            Err(refusal) => {
-                assert_eq!(rt; refusal, Refusal::new(Cause::Range, 0));
-                Ok(())
-            },
-        }
+        let rule = odd_loop()?.rule(1);
+        assert_eq!(rt; rule.err(), Some(Refusal::new(Cause::Range, 0)));
+        Ok(())
     }
 }

@@ -5,6 +5,8 @@ ghost use Rattle.check_sheets.specs.Said.{said};
 use book::refusal::Refusal;
 use std::fmt;
 
+// Kept beside the `Result<bool, Refusal>` of `check`: that can have no words of its own, and a struct around it would
+// need the same three cases without their names.
 #[derive(Clone, Copy)]
 pub enum Finding {
     AnswerSet,
@@ -19,11 +21,7 @@ impl fmt::Display for Finding {
         match self {
             Finding::AnswerSet => f.write_str("answer set"),
             Finding::NoAnswerSet => f.write_str("no answer set"),
-            Finding::Declined(refusal) => {
-                let number = refusal.cause.number();
-                let place = refusal.place;
-                write!(f, "fault {number} {place}")
-            }
+            Finding::Declined(refusal) => write!(f, "{refusal}"),
         }
     }
 }

@@ -9,12 +9,13 @@ use answer::check::check;
 use book::book::Book;
 use finding::Finding;
 use std::alloc::{AllocError, Global};
+use std::fmt::Write;
 use std::io::Read;
 use std::{env, io};
 
 mod finding;
 
-// The byte that a character of an argument stands for, above 1 if it is neither 0 nor 1.
+// The byte that a character of an argument stands for, above 1 if it is neither 0 nor 1. Both are `u8`, so no `From`.
 fn value_of(c: u8) -> u8
     ensures { result ≡ value c }
 {
@@ -29,12 +30,7 @@ fn value_of(c: u8) -> u8
 fn sheet_of(heap: Global, text: &str) -> Result<Vec<u8>, AllocError>
     ensures { IfOk result (λ v. v.items ≡ map value text.now) }
 {
-    let mut sheet = Vec::new(heap);
-    let characters = text.as_bytes();
-    for c in characters {
-        sheet.push(value_of(*c))?;
-    }
-    Ok(sheet)
+    text.bytes().map(value_of).collect(heap)
 }
 
 // What `check` answers, as it is printed.
@@ -52,16 +48,15 @@ fn main(rt: HostRuntime) -> io::Result<()> {
     let heap = rt.alloc();
     let mut bytes = Vec::new(heap);
     rt.stdin().read_to_end(&mut bytes)?;
-    let mut book = Book::empty();
-    if let Err(fault) = book.read(bytes.as_slice()) {
-        return println!(rt; "{fault}");
-    }
+    let book = match Book::try_from(bytes.as_slice()) {
+        Ok(book) => book,
+        Err(fault) => return println!(rt; "{fault}"),
+    };
     let mut report = String::new(heap);
     for text in env::args(&rt)?.skip(1) {
         let sheet = sheet_of(heap, text.as_str())?;
         let finding = finding_of(&book, sheet.as_slice());
-        let line = format!(in heap; "{text} {finding}\n")?;
-        report.push_str(line.as_str())?;
+        writeln!(report, "{text} {finding}")?;
     }
     print!(rt; "{report}")
 }

@@ -1,20 +1,23 @@
 // The limits one at a time: as much as there may be is taken, and one more is declined with its place.
 use book::refusal::{Cause, Refusal};
 use draft::draft::Draft;
+use std::array;
 use std::test::Fail;
 
 // The numbers 0, 1, 2 and so on.
 fn ascending() -> [usize; 255] {
-    let mut part = [0; 255];
-    for i in 0..255 {
-        part[i] = i;
-    }
-    part
+    array::from_fn(|i| i)
 }
 
 #[test]
 fn a_draft_is_at_first_for_no_atoms(rt: HostRuntime) {
     let mut draft = Draft::new();
+    assert_eq!(rt; draft.add(0, &[], &[]), Err(Refusal::new(Cause::Head, 0)));
+}
+
+#[test]
+fn a_draft_by_default_is_for_no_atoms(rt: HostRuntime) {
+    let mut draft = Draft::default();
     assert_eq!(rt; draft.add(0, &[], &[]), Err(Refusal::new(Cause::Head, 0)));
 }
 
@@ -81,7 +84,7 @@ fn a_draft_has_2048_literals(rt: HostRuntime) -> Result<(), Fail> {
     draft.start(128)?;
     let part = ascending();
     for head in 0..8 {
-        draft.add(head, &part[0..128], &part[0..128])?;
+        draft.add(head, &part[..128], &part[..128])?;
     }
     assert_eq!(rt; draft.add(0, &[0], &[]), Err(Refusal::new(Cause::Full, 0)));
     assert_eq!(rt; draft.add(0, &[], &[0]), Err(Refusal::new(Cause::Full, 0)));

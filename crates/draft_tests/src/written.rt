@@ -6,27 +6,21 @@ use draft::draft::Draft;
 use std::test::Fail;
 
 // The book of two pairs of atoms, each of which is in where the other is out.
-const TWO_PAIRS: &[u8; 38] =
+const TWO_PAIRS: &[u8] =
     b"\x04\x00\x04\x00\x04\x00\x00\x00\x00\x00\x00\x01\x01\x00\x01\x00\x00\x01\x02\x00\x02\x00\x00\x01\x03\x00\x03\x00\x00\x01\x01\x00\x00\x00\x03\x00\x02\x00";
 
 fn two_pairs() -> Result<Draft, Refusal> {
     let mut draft = Draft::new();
     draft.start(4)?;
-    draft.add(0, &[], &[1])?;
-    draft.add(1, &[], &[0])?;
-    draft.add(2, &[], &[3])?;
-    draft.add(3, &[], &[2])?;
+    for (head, out) in [(0, 1), (1, 0), (2, 3), (3, 2)] {
+        draft.add(head, &[], &[out])?;
+    }
     Ok(draft)
-}
-
-fn same(bytes: &[u8], others: &[u8]) -> bool {
-    bytes == others
 }
 
 // How many atoms and rules the book of the bytes has.
 fn counts(bytes: &[u8]) -> Result<(usize, usize), BookFault> {
-    let mut book = Book::empty();
-    book.read(bytes)?;
+    let book = Book::try_from(bytes)?;
     Ok((book.atoms(), book.rules()))
 }
 
@@ -35,8 +29,9 @@ fn two_pairs_is_its_book_byte_for_byte(rt: HostRuntime) -> Result<(), Fail> {
     let draft = two_pairs()?;
     let mut buffer = [9; 40];
     assert_eq!(rt; draft.write(&mut buffer), Ok(38));
-    assert!(rt; same(&buffer[0..38], TWO_PAIRS));
-    assert!(rt; buffer[38] == 9 && buffer[39] == 9);
+    let (book, rest) = buffer.split_at(38);
+    assert_eq!(rt; book, TWO_PAIRS);
+    assert_eq!(rt; rest, [9, 9].as_slice());
     Ok(())
 }
 
@@ -57,7 +52,7 @@ fn a_short_buffer_stays(rt: HostRuntime) -> Result<(), Fail> {
         draft.write(&mut buffer),
         Err(Refusal::new(Cause::Buffer, 38))
     );
-    assert!(rt; buffer == [9; 37]);
+    assert_eq!(rt; buffer, [9; 37]);
     Ok(())
 }
 

@@ -5,7 +5,7 @@ use Rattle.std.proofs.lemmas.Bool.{cases_eq}
 use Rattle.book.specs.Program.{Program}
 use Rattle.operator.specs.Page.{Meaning, LawfulOn, marked}
 use Rattle.operator.specs.Pages.{grows_set, opens_le, opens_lt}
-use Rattle.inquiry.specs.declared.state.Level.{Level}
+use Rattle.inquiry.specs.declared.walk.Level.{Level}
 use Rattle.inquiry.specs.Cursor.{Lowest}
 use Rattle.inquiry.specs.Walk.{at, ShapedLevels, Shaped}
 use Rattle.inquiry.specs.View.{level_at, levels_of}

@@ -1,26 +1,25 @@
 -- The calls' contracts, from what the code did.
-use Rattle.std.proofs.Common.{◌≡◌, ℕ, ◌+◌, ◌≤◌, ◌⊎◌, List, ◌∷◌, ◌++◌, take, drop, set, Some, None, Ok, Err, Result, sym, refl, ap, ◌∙◌, subst, zero-add, arith, MatchResult}
+use Rattle.std.proofs.Common.{◌≡◌, ℕ, ◌+◌, ◌≤◌, ◌⊎◌, List, ◌∷◌, ◌++◌, length, take, set, Some, None, sym, refl, ap, ◌∙◌, subst, zero-add, arith}
 use mathlib.Core.Logic.{∥∥₁_elim, ∥∥₁_map}
 use native.Mathlib.Bridge.{le_prop}
-use Rattle.std.specs.Result.{result_err}
+use Rattle.std.proofs.lemmas.List.{take_at}
 use Rattle.std.specs.List.{ContainsAt}
 use Rattle.book.specs.declared.refusal.Refusal.{Refusal}
 use Rattle.book.specs.Program.{Program, Valid}
 use Rattle.answer.specs.Fault.{sheet_fault}
 use Rattle.operator.specs.Page.{object_count, Meaning, LawfulOn}
 use Rattle.inquiry.specs.declared.inquiry.Inquiry.{Inquiry}
-use Rattle.inquiry.specs.declared.kind.Kind.{Kind}
-use Rattle.inquiry.specs.declared.kind.Kind.TheVariants.{Sheet}
 use Rattle.inquiry.specs.declared.state.State.{State}
-use Rattle.inquiry.specs.Cursor.{Cursor, Above, sheet_of}
-use Rattle.inquiry.specs.Walk.{Walk, at, Finding, paused, Run, over, used_up, hands_out, goes_on}
+use Rattle.inquiry.specs.Cursor.{Cursor, Above}
+use Rattle.inquiry.specs.Walk.{Walk, Finding, paused, Run, over, used_up, hands_out, goes_on}
 use Rattle.inquiry.specs.Calls.{State as States, fresh, Call, next, wish, seek, rewind, Said, declined, done, gave, next_fault, wish_fault, call_fault, moved, Response, declines, nexts, wishes, seeks, rewinds, BringsLawful, Event, event, Transcript, called, settled_cursor, settled_wishes}
 use Rattle.inquiry.specs.Promise.{Says, most, begins}
 use Rattle.inquiry.specs.Register.{handed, complete, goes}
-use Rattle.inquiry.specs.Kinds.{finding, Written}
-use Rattle.inquiry.specs.View.{levels_of, walk_by, standing, walk_of, cursor_of, view, OnlyCursor}
+use Rattle.inquiry.specs.View.{walk_of, cursor_of, view}
 use Rattle.inquiry.specs.Turns.{InShape}
 use Rattle.inquiry.specs.Answered.{held_book, held_state, Answered, Word, Keeps, Lists, Closes}
+use Rattle.inquiry.proofs.Faults.{seek_sheet}
+use Rattle.inquiry.proofs.Tables.{take_set_any}
 use Rattle.inquiry.proofs.Runs.{promise}
 use Rattle.inquiry.proofs.Registers.{listed, register, one_register}
 use Rattle.inquiry.proofs.Shapes.{transcript_shaped}
@@ -29,7 +28,7 @@ use Rattle.inquiry.proofs.Stable.{says_stable}
 abbrev pub Past : Program → States → Type 0
 Past b s = (es : List Event) × Transcript b es s
 
-pub past_shaped : (b : Program) (s : State) → ∥ Past b (view b s) ∥₁ → InShape b s
+pub past_shaped : (b : Program) (s : State) → ∥ Past b (view b s) ∥₁ → InShape b s.walk
 past_shaped b s h = ∥∥₁_map h (λ p. transcript_shaped b p.0 (view b s) p.1)
 
 pub past_more : (b : Program) (s t : States) (c : Call) (r : Said) → BringsLawful b c → Response b s c r t → ∥ Past b s ∥₁ → ∥ Past b t ∥₁
@@ -39,54 +38,32 @@ past_more b s t c r l x h = ∥∥₁_map h (λ p. (event c r ∷ p.0, called p.
 pub answered : (x y : Inquiry) (c : Call) (r : Said) → y.book ≡ x.book → BringsLawful (held_book x) c → Response (held_book x) (held_state x) c r (held_state y) → Answered x c r y
 answered x y c r e l h = record { response = h; book = e; longer = λ es tr. called tr l h; promised = λ es tr. promise (held_book x) (event c r ∷ es) (held_state y) (called tr l h) }
 
--- a sheet handed out
-
-same_walk : (z : ℕ) (s t : State) → OnlyCursor s t → walk_of z t ≡ walk_of z s
-same_walk z s t h =
-    ap (λ v. walk_by v (standing z t)) h.3 ∙ ap (walk_by s.ended) (ap (λ p. at (take z p) (levels_of z t.levels t.depth)) h.0 ∙ ap (λ x. at (take z s.page) (levels_of z x t.depth)) h.1 ∙ ap (λ d. at (take z s.page) (levels_of z s.levels d)) h.2)
-
-pub handed_run : (f : Meaning) (b : Program) (c : Cursor) (a : ℕ) (u : Walk) (n z : ℕ) (s t : State) (q out : List ℕ) (v : Kind) → Run f b c a u (finding v (sheet_of b q)) n (walk_of z s) → OnlyCursor s t → take b.atoms out ≡ sheet_of b q
-    → Run f b c a u (finding v (take b.atoms out)) n (walk_of z t)
-handed_run f b c a u n z s t q out v run o h =
-    subst (λ w. Run f b c a u (finding v (take b.atoms out)) n w) (sym (same_walk z s t o)) (subst (λ x. Run f b c a u (finding v x) n (walk_of z s)) (sym h) run)
-
-pub handed_cursor : (n : ℕ) (c d : Cursor) (x out : List ℕ) (v : Kind) → d ≡ Some x → v ≡ Sheet → take n out ≡ x → d ≡ moved c (finding v (take n out))
-handed_cursor n c d x out v g e h = g ∙ ap Some (sym h) ∙ sym (ap (λ y. moved c (finding y (take n out))) e)
-
-pub handed_buffer : (n : ℕ) (old new : List ℕ) (v : Kind) → v ≡ Sheet → drop n new ≡ drop n old → Written n old new v
-handed_buffer n old new v e h = subst (Written n old new) (sym e) h
-
--- the tests' results
-
-refused : (x : Inquiry) (c : Call) (f : Refusal) → BringsLawful (held_book x) c → Some f ≡ call_fault (held_book x).atoms c → Answered x c (declined f) x
-refused x c f l e = answered x x c (declined f) refl l (declines (sym e))
-
-abbrev Nothing : Type 0
-Nothing = Unit {0}
-
-pub admitted : (x : Inquiry) (c : Call) (r : Result Nothing Refusal) → BringsLawful (held_book x) c → result_err r ≡ call_fault (held_book x).atoms c
-    → MatchResult r (λ _. call_fault (held_book x).atoms c ≡ None) (λ f. Answered x c (declined f) x)
-admitted x c (Ok u) l e = sym e
-admitted x c (Err f) l e = refused x c f l e
+-- a call that the code's test declines, over its count k of atoms
+pub refused : (x : Inquiry) (c : Call) (f : Refusal) (k : ℕ) → BringsLawful (held_book x) c → k ≡ (held_book x).atoms → Some f ≡ call_fault k c → Answered x c (declined f) x
+refused x c f k l e h = answered x x c (declined f) refl l (declines (rw e at (sym h)))
 
 -- the accepted calls
 
 abbrev state_of : Cursor → List ℕ → Walk → States
 state_of c w v = record { cursor = c; wishes = w; walk = v }
 
-pub next_responds : (f : Meaning) (b : Program) (s t : State) (a room : ℕ) (x : Finding) (n : ℕ) → next_fault b.atoms a room ≡ None
-    → Run f b (cursor_of b.atoms s.cursor) a (walk_of (object_count b) s) x n (walk_of (object_count b) t) → cursor_of b.atoms t.cursor ≡ moved (cursor_of b.atoms s.cursor) x → t.wishes ≡ s.wishes
+pub next_responds : (f : Meaning) (b : Program) (s t : State) (k : ℕ) → k ≡ b.atoms → (a room : ℕ) (x : Finding) (n : ℕ) → None ≡ next_fault k a room
+    → Run f b (cursor_of b.atoms s.cursor) a (walk_of (object_count b) s.walk) x n (walk_of (object_count b) t.walk) → cursor_of b.atoms t.cursor ≡ moved (cursor_of b.atoms s.cursor) x → t.wishes ≡ s.wishes
     → Response b (view b s) (next f a room) (gave x n) (view b t)
-next_responds f b s t a room x n e run ec ew =
+next_responds f b s t k en a room x n e run ec ew =
     subst (Response b (view b s) (next f a room) (gave x n))
-    (ap (λ y. state_of y (take b.atoms s.wishes) (walk_of (object_count b) t)) (sym ec) ∙ ap (λ w. state_of (cursor_of b.atoms t.cursor) (take b.atoms w) (walk_of (object_count b) t)) (sym ew))
-    (nexts e run)
+    (ap (λ y. state_of y (take b.atoms s.wishes) (walk_of (object_count b) t.walk)) (sym ec) ∙ ap (λ w. state_of (cursor_of b.atoms t.cursor) (take b.atoms w) (walk_of (object_count b) t.walk)) (sym ew))
+    (nexts (rw en at (sym e)) run)
 
-pub wish_responds : (b : Program) (s t : State) (a v : ℕ) → wish_fault b.atoms a v ≡ None → view b t ≡ fresh b (cursor_of b.atoms s.cursor) (set (take b.atoms s.wishes) a v) → Response b (view b s) (wish a v) done (view b t)
-wish_responds b s t a v f e = subst (Response b (view b s) (wish a v) done) (sym e) (wishes f)
+module _ (b : Program) (s t : State) (k : ℕ) (e : k ≡ b.atoms) where
+  pub wish_responds : (a v : ℕ) → None ≡ wish_fault k a v → view b t ≡ fresh b (cursor_of b.atoms s.cursor) (take b.atoms (set s.wishes a v)) → Response b (view b s) (wish a v) done (view b t)
+  wish_responds a v f h = subst (Response b (view b s) (wish a v) done) (sym (h ∙ ap (fresh b (cursor_of b.atoms s.cursor)) (take_set_any b.atoms s.wishes a v))) (wishes (rw e at (sym f)))
 
-pub seek_responds : (b : Program) (s t : State) (x : List ℕ) → sheet_fault b.atoms x ≡ None → view b t ≡ fresh b (Some x) (take b.atoms s.wishes) → Response b (view b s) (seek x) done (view b t)
-seek_responds b s t x h e = subst (Response b (view b s) (seek x) done) (sym e) (seeks h)
+  pub seek_responds : (x y z : List ℕ) → None ≡ sheet_fault k x → y ≡ x → view b t ≡ fresh b (Some (take b.atoms (y ++ z))) (take b.atoms s.wishes) → Response b (view b s) (seek x) done (view b t)
+  seek_responds x y z f d h =
+      let f : sheet_fault b.atoms x ≡ None = rw e at (sym f) in
+      let l : length y ≡ b.atoms = rw d (seek_sheet b.atoms x f).long in
+      subst (Response b (view b s) (seek x) done) (sym (h ∙ ap (λ c. fresh b (Some c) (take b.atoms s.wishes)) (take_at y z b.atoms l ∙ d))) (seeks f)
 
 pub rewind_responds : (b : Program) (s t : State) → view b t ≡ fresh b None (take b.atoms s.wishes) → Response b (view b s) rewind done (view b t)
 rewind_responds b s t e = subst (Response b (view b s) rewind done) (sym e) rewinds

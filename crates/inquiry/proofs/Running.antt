@@ -1,47 +1,45 @@
--- The steps of a call, from a loop that makes them: s the state before the loop, t now, u after one step more.
-use Rattle.std.proofs.Common.{◌≡◌, ℕ, suc, ◌+◌, ◌-◌, ◌<◌, ◌≤◌, true, false, sym, ap, subst, add-zero, add-one, arith}
+-- The steps of a call, from a loop that makes them: v the walk before the loop, w now, x after one step more.
+use Rattle.std.proofs.Common.{◌≡◌, ℕ, suc, ◌+◌, ◌-◌, ◌<◌, ◌≤◌, true, false, Some, None, sym, ap, ◌∙◌, subst, add-zero, add-one, arith}
 use mathlib.Core.Logic.{∥∥₁_map}
 use Rattle.book.specs.Program.{Program, Valid}
 use Rattle.operator.specs.Page.{object_count, Meaning, Lawful}
-use Rattle.inquiry.specs.declared.step.Move.TheVariants.{Found as Finds, Went as Goes}
-use Rattle.inquiry.specs.declared.state.State.{State}
-use Rattle.inquiry.specs.Cursor.{sheet_of}
-use Rattle.inquiry.specs.Walk.{Walk, ended, Move as Moves, found, went, Step, Finding, sheet, none, paused, Run, over, used_up, hands_out, Shaped}
-use Rattle.inquiry.specs.View.{levels_of, cursor_of, walk_by, standing, walk_of, Settled}
+use Rattle.inquiry.specs.declared.walk.Walk.{Walk}
+use Rattle.inquiry.specs.Cursor.{Cursor, sheet_of}
+use Rattle.inquiry.specs.Walk.{Walk as Walks, ended, went, Finding, sheet, none, paused, Run, over, used_up, hands_out, Shaped}
+use Rattle.inquiry.specs.View.{levels_of, standing, walk_by, walk_of}
 use Rattle.inquiry.specs.Turns.{page_of, Stepped, Ran, InShape}
 use Rattle.inquiry.proofs.Shapes.{Went, one_more, joins, step_shaped}
-use Rattle.inquiry.proofs.Tables.{live}
 
--- so many steps went on
-abbrev pub Gone : Meaning → Program → State → ℕ → State → Type 0
-Gone f b s j t = Went f b (cursor_of b.atoms s.cursor) (walk_of (object_count b) s) j (walk_of (object_count b) t)
+module _ (f : Meaning) (b : Program) (c : Cursor) (v : Walk) where
+  -- so many steps went on
+  abbrev pub Gone : ℕ → Walk → Type 0
+  Gone j w = Went f b c (walk_of (object_count b) v) j (walk_of (object_count b) w)
 
--- a run of a steps in all, of which j went on
-after : (f : Meaning) (b : Program) (s : State) (a j m n : ℕ) (w v : Walk) (kind : Finding) → Went f b (cursor_of b.atoms s.cursor) (walk_of (object_count b) s) j w → Run f b (cursor_of b.atoms s.cursor) m w kind n v → j + m ≡ a → Run f b (cursor_of b.atoms s.cursor) a (walk_of (object_count b) s) kind (j + n) v
-after f b s a j m n w v kind h r e = subst (λ x. Run f b (cursor_of b.atoms s.cursor) x (walk_of (object_count b) s) kind (j + n) v) e (joins f b (cursor_of b.atoms s.cursor) (walk_of (object_count b) s) j w m kind n v h r)
+  -- a run of k steps in all, of which j went on
+  after : (k j m n : ℕ) (w x : Walks) (kind : Finding) → Went f b c (walk_of (object_count b) v) j w → Run f b c m w kind n x → j + m ≡ k → Run f b c k (walk_of (object_count b) v) kind (j + n) x
+  after k j m n w x kind g r e = rw (← e) (joins f b c (walk_of (object_count b) v) j w m kind n x g r)
 
--- a step under the loop's operator and cursor is one under those before it
-since : (h f : Meaning) (b : Program) (s t : State) (m : Moves) → h ≡ f → Settled s t → Step h b (cursor_of b.atoms t.cursor) (page_of b t) (levels_of (object_count b) t.levels t.depth) m → Step f b (cursor_of b.atoms s.cursor) (page_of b t) (levels_of (object_count b) t.levels t.depth) m
-since h f b s t m e o st = subst (λ x. Step x b (cursor_of b.atoms s.cursor) (page_of b t) (levels_of (object_count b) t.levels t.depth) m) e (subst (λ c. Step h b (cursor_of b.atoms c) (page_of b t) (levels_of (object_count b) t.levels t.depth) m) o.0 st)
+  module _ (w : Walk) (j : ℕ) (g : Gone j w) where
+    -- the loop stands at a page, or at the walk's end
+    at_page : (d : ℕ) → w.depth ≡ Some d → Went f b c (walk_of (object_count b) v) j (standing (object_count b) w d)
+    at_page d e = subst (Went f b c (walk_of (object_count b) v) j) (ap (walk_by (object_count b) w) e) g
 
--- the loop stands at a page
-standing_at : (f : Meaning) (b : Program) (s t : State) (j : ℕ) → t.ended ≡ false → Gone f b s j t → Went f b (cursor_of b.atoms s.cursor) (walk_of (object_count b) s) j (standing (object_count b) t)
-standing_at f b s t j l g = subst (Went f b (cursor_of b.atoms s.cursor) (walk_of (object_count b) s) j) (live t.ended (standing (object_count b) t) l) g
+    module _ (h : Meaning) (same : h ≡ f) (d : ℕ) (x : Walk) (e : w.depth ≡ Some d) where
+      pub gone_more : Stepped h b c w d false x → Gone (j + 1) x
+      gone_more st = rw add-one (one_more (at_page d e) (rw same at st))
 
-pub gone_more : (h f : Meaning) (b : Program) (s t u : State) (j : ℕ) → h ≡ f → Settled s t → t.ended ≡ false → Gone f b s j t → Stepped h b t Goes u → Gone f b s (j + 1) u
-gone_more h f b s t u j e o l g st = rw add-one (one_more (standing_at f b s t j l g) (since h f b s t (went (walk_of (object_count b) u)) e o st))
+      pub run_found : (k : ℕ) → Stepped h b c w d true x → j < k → Ran f b c v k (sheet (sheet_of b (page_of b x))) (j + 1) x
+      run_found k st m = after k j (suc (k - suc j)) 1 _ _ _ (at_page d e) (hands_out (rw same at st)) (omega arith)
 
-pub gone_shaped : (h : Meaning) (b : Program) (t u : State) → Valid b → Lawful h → t.ended ≡ false → Stepped h b t Goes u → InShape b t → InShape b u
-gone_shaped h b t u V L l st good = ∥∥₁_map good (λ g. step_shaped h b (cursor_of b.atoms t.cursor) (page_of b t) (levels_of (object_count b) t.levels t.depth) (went (walk_of (object_count b) u)) (L b V) (subst (Shaped b) (live t.ended (standing (object_count b) t) l) g) st)
+    pub run_over : (k n : ℕ) → w.depth ≡ None → j ≤ k → j ≡ n → Ran f b c v k none n w
+    run_over k n e m q =
+        let l : walk_of (object_count b) w ≡ ended = ap (walk_by (object_count b) w) e in
+        subst (λ i. Ran f b c v k none i w) (add-zero j ∙ q) (after k j (k - j) 0 _ _ none g (subst (λ x. Run f b c (k - j) x none 0 x) (sym l) over) (omega arith))
 
-pub run_found : (h f : Meaning) (b : Program) (s t u : State) (a j : ℕ) → h ≡ f → Settled s t → t.ended ≡ false → Gone f b s j t → Stepped h b t Finds u → j < a → Ran f b s a (sheet (sheet_of b (page_of b u))) (j + 1) u
-run_found h f b s t u a j e o l g st m = after f b s a j (suc (a - suc j)) 1 _ _ _ (standing_at f b s t j l g) (hands_out (since h f b s t (found (sheet_of b (page_of b u)) (walk_of (object_count b) u)) e o st)) (omega arith)
+    pub run_paused : (d n : ℕ) → w.depth ≡ Some d → j ≡ n → Ran f b c v n paused n w
+    run_paused d n e q =
+        let l = ap (walk_by (object_count b) w) e in
+        subst (λ i. Ran f b c v n paused i w) (add-zero j ∙ q) (after n j 0 0 _ _ paused g (subst (λ x. Run f b c 0 x paused 0 x) (sym l) used_up) (omega arith))
 
-pub run_over : (f : Meaning) (b : Program) (s t : State) (a j : ℕ) → t.ended ≡ true → Gone f b s j t → j ≤ a → Ran f b s a none j t
-run_over f b s t a j l g m =
-    let e : walk_of (object_count b) t ≡ ended = ap (λ v. walk_by v (standing (object_count b) t)) l in
-    subst (λ n. Ran f b s a none n t) (add-zero j) (after f b s a j (a - j) 0 (walk_of (object_count b) t) (walk_of (object_count b) t) none g (subst (λ w. Run f b (cursor_of b.atoms s.cursor) (a - j) w none 0 w) (sym e) over) (omega arith))
-
-pub run_paused : (f : Meaning) (b : Program) (s t : State) (a j : ℕ) → t.ended ≡ false → Gone f b s j t → j ≤ a → a ≤ j → Ran f b s a paused j t
-run_paused f b s t a j l g m x =
-    subst (λ n. Ran f b s a paused n t) (add-zero j) (after f b s a j 0 0 (walk_of (object_count b) t) (walk_of (object_count b) t) paused g (subst (λ w. Run f b (cursor_of b.atoms s.cursor) 0 w paused 0 w) (sym (live t.ended (standing (object_count b) t) l)) used_up) (omega arith))
+pub gone_shaped : (f : Meaning) (b : Program) (c : Cursor) (w x : Walk) (d : ℕ) → Valid b → Lawful f → w.depth ≡ Some d → Stepped f b c w d false x → InShape b w → InShape b x
+gone_shaped f b c w x d V L e st good = ∥∥₁_map good (λ h. step_shaped f b c (page_of b w) (levels_of (object_count b) w.levels d) (went (walk_of (object_count b) x)) (L b V) (subst (Shaped b) (ap (walk_by (object_count b) w) e) h) st)

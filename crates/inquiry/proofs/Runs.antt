@@ -139,8 +139,8 @@ cost_steps k m none n l c = c.0
 cost_steps k m paused n l c = omega arith
 
 cost_paused : (k m : ℕ) (kind : Finding) (n l : ℕ) → Cost k m kind n l → kind ≡ paused → k < m
-cost_paused k m (sheet x) n l c e = let z : ◌≡◌ {A = ℕ} 0 1 = cc in absurd (omega arith)
-cost_paused k m none n l c e = let z : ◌≡◌ {A = ℕ} 0 1 = cc in absurd (omega arith)
+cost_paused k m (sheet x) n l c e = absurd (cc)
+cost_paused k m none n l c e = absurd (cc)
 cost_paused k m paused n l c e = omega arith
 
 kept : (b : Program) (es : List Event) (s : State) → Held b es s → (f : Meaning) → LawfulOn b f → (k room : ℕ) (kind : Finding) (n : ℕ) (t : State) → Response b s (next f k room) (gave kind n) t → Kept b es k kind n

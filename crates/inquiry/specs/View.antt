@@ -1,14 +1,15 @@
 -- The state of an inquiry, read off the code's tables. Assumes nothing.
-use Rattle.std.specs.Prelude.{◌≡◌, ℕ, zero, suc, Bool, true, false, List, [], ◌∷◌, take, replicate, Some, None, Option, slice_index_or}
+use Rattle.std.specs.Prelude.{◌≡◌, ℕ, zero, suc, List, [], ◌∷◌, take, replicate, Some, None, Option, slice_index_or}
 use Rattle.book.specs.Program.{Program}
 use Rattle.operator.specs.Page.{object_count}
 use Rattle.inquiry.specs.Cursor.{Cursor}
-use Rattle.inquiry.specs.Walk.{Side as Sides, out, inn, Level as Levels, level, Walk, ended, at}
+use Rattle.inquiry.specs.Walk.{Side as Sides, out, inn, Level as Levels, level, Walk as Walks, ended, at}
 use Rattle.inquiry.specs.Calls.{State as States}
 use Rattle.inquiry.specs.declared.state.State.{State}
-use Rattle.inquiry.specs.declared.state.Level.{Level}
-use Rattle.inquiry.specs.declared.state.Side.{Side}
-use Rattle.inquiry.specs.declared.state.Side.TheVariants.{Out, In}
+use Rattle.inquiry.specs.declared.walk.Walk.{Walk}
+use Rattle.inquiry.specs.declared.walk.Level.{Level}
+use Rattle.inquiry.specs.declared.walk.Side.{Side}
+use Rattle.inquiry.specs.declared.walk.Side.TheVariants.{Out, In}
 
 abbrev pub side_of : Side → Sides
 side_of Out = out
@@ -30,15 +31,16 @@ abbrev pub levels_of : ℕ → List Level → ℕ → List Levels
 levels_of z t zero = []
 levels_of z t (suc d) = level_of z (level_at t d) ∷ levels_of z t d
 
-abbrev pub walk_by : Bool → Walk → Walk
-walk_by true w = ended
-walk_by false w = w
+-- a walk at the first d levels, and at its own: it has ended if it has none
+abbrev pub standing : ℕ → Walk → ℕ → Walks
+standing z w d = at (take z w.page) (levels_of z w.levels d)
 
-abbrev pub standing : ℕ → State → Walk
-standing z s = at (take z s.page) (levels_of z s.levels s.depth)
+abbrev pub walk_by : ℕ → Walk → Option ℕ → Walks
+walk_by z w None = ended
+walk_by z w (Some d) = standing z w d
 
-abbrev pub walk_of : ℕ → State → Walk
-walk_of z s = walk_by s.ended (standing z s)
+abbrev pub walk_of : ℕ → Walk → Walks
+walk_of z w = walk_by z w w.depth
 
 -- a cursor over n atoms
 abbrev pub cursor_of : ℕ → Option (List ℕ) → Cursor
@@ -47,27 +49,23 @@ cursor_of n (Some c) = Some (take n c)
 
 -- the state over a book
 abbrev pub view : Program → State → States
-view b s = record { cursor = cursor_of b.atoms s.cursor; wishes = take b.atoms s.wishes; walk = walk_of (object_count b) s }
-
--- cursor and wishes stay
-abbrev pub Settled : State → State → Type 0
-Settled s t = (t.cursor ≡ s.cursor) × (t.wishes ≡ s.wishes)
+view b s = record { cursor = cursor_of b.atoms s.cursor; wishes = take b.atoms s.wishes; walk = walk_of (object_count b) s.walk }
 
 -- nothing but the page changes
-abbrev pub OnlyPage : State → State → Type 0
-OnlyPage s t = (t.levels ≡ s.levels) × (t.depth ≡ s.depth) × (t.ended ≡ s.ended) × Settled s t
+abbrev pub OnlyPage : Walk → Walk → Type 0
+OnlyPage v w = (w.levels ≡ v.levels) × (w.depth ≡ v.depth)
 
 -- nothing but the cursor changes
 abbrev pub OnlyCursor : State → State → Type 0
-OnlyCursor s t = (t.page ≡ s.page) × (t.levels ≡ s.levels) × (t.depth ≡ s.depth) × (t.ended ≡ s.ended) × (t.wishes ≡ s.wishes)
+OnlyCursor s t = (t.walk ≡ s.walk) × (t.wishes ≡ s.wishes)
 
--- the state at an opening: nothing wished, marked or chosen
-abbrev pub at_start : State
-at_start = record {
-  wishes = replicate 128 0;
-  cursor = None;
+-- the walk and the state at an opening: nothing wished, marked or chosen
+abbrev pub walk_at_start : Walk
+walk_at_start = record {
   page = replicate 384 0;
   levels = replicate 128 (record { atom = 0; side = Out; page = replicate 384 0 });
-  depth = 0;
-  ended = false;
+  depth = Some 0;
 }
+
+abbrev pub at_start : State
+at_start = record { wishes = replicate 128 0; cursor = None; walk = walk_at_start }

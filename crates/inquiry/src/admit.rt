@@ -4,6 +4,7 @@ ghost use Rattle.std.specs.Result.{result_err};
 ghost use Rattle.inquiry.specs.Calls.{next_fault, wish_fault};
 
 use book::refusal::{Cause, Refusal};
+use operator::page::IN;
 
 // The most steps that one call may be allowed.
 pub const MAX_ALLOWANCE: u32 = 1_000_000;
@@ -12,7 +13,7 @@ pub const MAX_ALLOWANCE: u32 = 1_000_000;
 pub(crate) fn check_next(n: usize, allowance: u32, room: usize) -> Result<(), Refusal>
     ensures { result_err result ≡ next_fault n allowance room }
 {
-    if allowance == 0 || allowance > MAX_ALLOWANCE {
+    if !(1..=MAX_ALLOWANCE).contains(&allowance) {
         return Err(Refusal::new(Cause::Allowance, 0));
     }
     if room < n {
@@ -28,7 +29,7 @@ pub(crate) fn check_wish(n: usize, atom: usize, value: u8) -> Result<(), Refusal
     if atom >= n {
         return Err(Refusal::new(Cause::Range, 0));
     }
-    if value > 2 {
+    if value > IN {
         return Err(Refusal::new(Cause::Value, 0));
     }
     Ok(())

@@ -7,9 +7,7 @@ ghost use Rattle.inquiry.specs.View.{view};
 use crate::state::State;
 use book::book::Book;
 
-mod accepted;
 pub mod calls;
-mod declined;
 
 #[derive(Drop)]
 pub struct Inquiry<'a> {

@@ -5,20 +5,17 @@ ghost use Rattle.inquiry.specs.Kinds.{kind_number};
 // A sheet, that there is none left, or that the allowance is used.
 #[derive(Clone, Copy, PartialEq, Eq, Debug)]
 pub enum Kind {
-    Sheet,
-    NoneLeft,
-    Paused,
+    Sheet = 1,
+    NoneLeft = 2,
+    Paused = 3,
 }
 
 impl Kind {
+    // 1, 2 or 3. `as` wants the type itself, so no generic function serves all enums with numbers.
     pub fn number(self) -> u8
         ensures { result ≡ kind_number self }
     {
-        match self {
-            Kind::Sheet => 1,
-            Kind::NoneLeft => 2,
-            Kind::Paused => 3,
-        }
+        self as u8
     }
 }
 

@@ -5,10 +5,9 @@
 #![tactic(auto)]
 
 mod admit;
-mod advance;
 pub mod inquiry;
 mod judge;
 pub mod kind;
-mod restart;
 mod state;
 mod step;
+mod walk;

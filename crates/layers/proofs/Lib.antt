@@ -1,3 +1,3 @@
-pub mod Turns
+pub mod Pages
 pub mod Resting
 pub mod Looking

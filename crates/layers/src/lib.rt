@@ -4,8 +4,6 @@
 //! the open objects. `Basic` and `Full` are the stacks, and `Nothing` derives nothing.
 #![tactic(auto)]
 
-mod below;
-mod keep;
 pub mod lookahead;
 pub mod nothing;
 pub mod sequence;

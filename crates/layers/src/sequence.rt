@@ -1,17 +1,11 @@
 // Sequence: a first operator and then a second. A clash of either leaves the page as it was at the call.
-ghost use Rattle.std.specs.Prelude.{◌≡◌, ◌≤◌, length};
-ghost use Rattle.book.specs.Reading.{program_of};
-ghost use Rattle.operator.specs.Page.{Page};
-ghost use Rattle.operator.specs.Apply.{Answers};
 ghost use Rattle.operator.specs.Layer.{sequence};
 ghost use Rattle.operator.specs.Layers.{sequence_lawful};
 
-use crate::below::go;
-use crate::keep::{restore, save};
 use book::book::Book;
 use book::refusal::Refusal;
 use operator::operator::{Operator, Verdict};
-use operator::page::check_page;
+use operator::page::{MAX_MARKS, check_page};
 
 #[derive(Clone, Copy)]
 pub struct Sequence<F, S> {
@@ -26,28 +20,16 @@ impl<F: Operator, S: Operator> Operator for Sequence<F, S> {
 
     fn apply(&mut self, book: &Book, page: &mut [u8]) -> Result<Verdict, Refusal> {
         check_page(book, page)?;
-        Ok(one_then_other(&mut self.first, &mut self.second, book, page))
+        let saved = &mut [0; MAX_MARKS][..page.len()];
+        saved.copy_from_slice(page);
+        // Both pages are pages of the book, and those are never declined.
+        if self.first.apply(book, page).unwrap() == Verdict::Clash {
+            return Ok(Verdict::Clash);
+        }
+        let verdict = self.second.apply(book, page).unwrap();
+        if verdict == Verdict::Clash {
+            page.copy_from_slice(saved);
+        }
+        Ok(verdict)
     }
-}
-
-fn one_then_other<F: Operator, S: Operator>(
-    first: &mut F,
-    second: &mut S,
-    book: &Book,
-    page: &mut [u8],
-) -> Verdict
-    requires page { Page (program_of book.now) page.old }
-    requires short { length page.old ≤ 384 }
-    ensures answers { Answers (sequence (F.Operator.meaning first.old) (S.Operator.meaning second.old) (program_of book.now) page.old) page.old result page.new }
-    ensures same { sequence (F.Operator.meaning first.new) (S.Operator.meaning second.new) ≡ sequence (F.Operator.meaning first.old) (S.Operator.meaning second.old) }
-{
-    let saved = save(page);
-    if let Verdict::Clash = go(first, book, page) {
-        return Verdict::Clash;
-    }
-    let verdict = go(second, book, page);
-    if let Verdict::Clash = verdict {
-        restore(&saved, page);
-    }
-    verdict
 }

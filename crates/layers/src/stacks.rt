@@ -13,6 +13,7 @@ use operator::forward::Forward;
 use operator::operator::{Operator, Verdict};
 use operator::unfounded::Unfounded;
 
+// Each stack is a value of its own that callers name, so it is no alias of the type that it is made of.
 // Until-rest over forward, backward, unfounded in sequence.
 #[derive(Clone, Copy)]
 pub struct Basic;

@@ -1,7 +1,7 @@
 -- The loop that writes the page or finds the clash.
-use Rattle.std.proofs.Common.{◌≡◌, ℕ, ◌+◌, ◌<◌, ◌≤◌, Bool, true, false, cond, ◌&&◌, ◌||◌, eqb, ◌≢◌, List, length, get_or, take, set, sym, refl, ap, ◌∙◌, subst, inl, inr, arith, below_more}
+use Rattle.std.proofs.Common.{◌≡◌, ℕ, ◌+◌, ◌<◌, ◌≤◌, Bool, true, false, cond, ◌&&◌, ◌||◌, eqb, ◌≢◌, List, length, get_or, take, set, Some, None, Option, sym, refl, ap, ◌∙◌, subst, inl, inr, arith, below_more}
 use Rattle.std.proofs.lemmas.List.{get_or-set_same, get_or-set_other, get_or-take, length-take-le}
-use Rattle.std.proofs.lemmas.Bool.{true≢false, and_parts, and_from, cases_Bool}
+use Rattle.std.proofs.lemmas.Bool.{and_parts, and_from, cases_Bool}
 use Rattle.book.specs.Program.{Program}
 use Rattle.answer.specs.Tests.{some_below}
 use Rattle.operator.specs.Page.{object_count, Page, clash, marked}
@@ -29,44 +29,48 @@ clash_from : (b : Program) (p : List ℕ) (d : Derived) (i : ℕ) → i < object
 clash_from b p d i l x y =
     rw ((some_is (λ i. gets_in b p d i && gets_out b p d i) (object_count b)).1 (i, l, and_from _ _ x y), marks_of) refl
 
--- what object i gets, both marks included
-abbrev pub got : Program → List ℕ → Derived → ℕ → ℕ
+-- the mark that object i is to have, both marks it has and gets included
+abbrev pub got : Program → List ℕ → Derived → ℕ → Option ℕ
 got b p d i = code (gets_in b p d i) (gets_out b p d i)
 
-code_both : (x y : Bool) → code x y ≡ 3 → (x ≡ true) × (y ≡ true)
+code_both : (x y : Bool) → code x y ≡ None → (x ≡ true) × (y ≡ true)
 code_both true true e = (refl, refl)
-code_both true false e = absurd (omega arith)
-code_both false true e = absurd (omega arith)
-code_both false false e = absurd (omega arith)
+code_both true false e = cc
+code_both false true e = cc
+code_both false false e = cc
 
-code_one : (x y : Bool) → (code x y ≡ 3 → ⊥) → code x y ≡ cond x 2 (cond y 1 0)
-code_one true true e = absurd (e refl)
-code_one true false e = refl
-code_one false y e = refl
-
-code_not : (x y : Bool) → (code x y ≡ 3 → ⊥) → x ≡ true → y ≡ true → ⊥
-code_not true true e f g = e refl
-code_not true false e f g = true≢false (sym g)
-code_not false y e f g = true≢false (sym f)
+code_one : (x y : Bool) (m : ℕ) → code x y ≡ Some m → (m ≡ cond x 2 (cond y 1 0)) × (x ≡ true → y ≡ true → ⊥)
+code_one true true m e = cc
+code_one true false m e = (cc, λ f g. cc)
+code_one false true m e = (cc, λ f g. cc)
+code_one false false m e = (cc, λ f g. cc)
 
 -- what the code gets of its flags
-pub got_is : (b : Program) (p : List ℕ) (t : Notes) (n i r : ℕ) → n ≡ b.atoms → r ≡ code (eqb (get_or p i 0) 2 || side n (get_or t.atom_in) (get_or t.body_in) i) (eqb (get_or p i 0) 1 || side n (get_or t.atom_out) (get_or t.body_out) i) → r ≡ got b p (tests t) i
-got_is b p t n i r e h = subst (λ n. r ≡ code (eqb (get_or p i 0) 2 || side n (get_or t.atom_in) (get_or t.body_in) i) (eqb (get_or p i 0) 1 || side n (get_or t.atom_out) (get_or t.body_out) i)) e h
+pub got_is : (b : Program) (p : List ℕ) (t : Notes) (n i : ℕ) (r : Option ℕ) → n ≡ b.atoms
+    → r ≡ code (eqb (get_or p i 0) 2 || side n (get_or t.atom_in) (get_or t.body_in) i) (eqb (get_or p i 0) 1 || side n (get_or t.atom_out) (get_or t.body_out) i)
+    → r ≡ got b p (tests t) i
+got_is b p t n i r e h =
+    subst (λ n. r ≡ code (eqb (get_or p i 0) 2 || side n (get_or t.atom_in) (get_or t.body_in) i) (eqb (get_or p i 0) 1 || side n (get_or t.atom_out) (get_or t.body_out) i)) e h
 
--- the first i objects are written, and none has both
+-- the first i objects are written
 abbrev pub Written : Program → List ℕ → Derived → List ℕ → ℕ → Type 0
-Written b p d q i = (k : ℕ) → k < i → (get_or q k 0 ≡ got b p d k) × (got b p d k ≡ 3 → ⊥)
+Written b p d q i = (k : ℕ) → k < i → got b p d k ≡ Some (get_or q k 0)
 
-pub written_more : (b : Program) (p : List ℕ) (d : Derived) (q : List ℕ) (i m : ℕ) → i < length q → Written b p d q i → m ≡ got b p d i → (m ≡ 3 → ⊥) → Written b p d (set q i m) (i + 1)
-written_more b p d q i m l h e n = below_more _ _
-    (λ k g. let ne : k ≢ i = omega arith in (get_or-set_other q i k m 0 ne ∙ (h k g).0, (h k g).1))
-    (get_or-set_same q i m 0 l ∙ e, λ z. n (e ∙ z))
+pub written_more : (b : Program) (p : List ℕ) (d : Derived) (q : List ℕ) (i m : ℕ) → i < length q → Written b p d q i → Some m ≡ got b p d i
+    → Written b p d (set q i m) (i + 1)
+written_more b p d q i m l h e =
+    below_more _ _
+    (λ k g. let ne : k ≢ i = omega arith in h k g ∙ ap Some (sym (get_or-set_other q i k m 0 ne)))
+    (sym e ∙ ap Some (sym (get_or-set_same q i m 0 l)))
 
-pub clashed : (b : Program) (p : List ℕ) (d : Derived) (i : ℕ) → i < object_count b → got b p d i ≡ 3 → Answers (marks_of b p d) p Clash p
-clashed b p d i l e = let k = code_both (gets_in b p d i) (gets_out b p d i) e in subst (λ o. Answers o p Clash p) (sym (clash_from b p d i l k.0 k.1)) (refl, refl)
+pub clashed : (b : Program) (p : List ℕ) (d : Derived) (i : ℕ) → i < object_count b → None ≡ got b p d i → Answers (marks_of b p d) p Clash p
+clashed b p d i l e =
+    let k = code_both (gets_in b p d i) (gets_out b p d i) (sym e) in
+    subst (λ o. Answers o p Clash p) (sym (clash_from b p d i l k.0 k.1)) (refl, refl)
 
-pub finished : (b : Program) (p : List ℕ) (d : Derived) (q r : List ℕ) → Page b p → length p ≤ length q → Written b p d q (object_count b) → r ≡ take (length p) q → Answers (marks_of b p d) p Marked r
+pub finished : (b : Program) (p : List ℕ) (d : Derived) (q r : List ℕ) → Page b p → length p ≤ length q → Written b p d q (object_count b)
+    → r ≡ take (length p) q → Answers (marks_of b p d) p Marked r
 finished b p d q r G l h e =
     let u = G.long in
-    let m = marked_from b p (take (length p) q) d (length-take-le (length p) q l ∙ u) (λ i k. get_or-take (length p) q i 0 (omega arith) ∙ (h i k).0 ∙ code_one (gets_in b p d i) (gets_out b p d i) (h i k).1) (λ i k. code_not (gets_in b p d i) (gets_out b p d i) (h i k).1) in
+    let m = marked_from b p (take (length p) q) d (length-take-le (length p) q l ∙ u) (λ i k. get_or-take (length p) q i 0 (omega arith) ∙ (code_one (gets_in b p d i) (gets_out b p d i) _ (h i k)).0) (λ i k. (code_one (gets_in b p d i) (gets_out b p d i) _ (h i k)).1) in
     subst (λ o. Answers o p Marked r) (sym m) (refl, e)

@@ -1,25 +1,39 @@
--- Tests over the atoms of a part are tests of them one by one.
-use Rattle.std.proofs.Common.{◌≡◌, ℕ, ◌/◌, ◌<◌, Bool, true, List, length, get_or, Decides, refl, ap, ◌∙◌, subst}
-use Rattle.std.proofs.lemmas.List.{get_or_default}
-use Rattle.std.proofs.lemmas.Bool.Decides.{same_from_decides, Decides-like, Decides-by_or}
-use Rattle.book.specs.Layout.{words}
-use Rattle.book.proofs.Parts.{words-length}
-use Rattle.answer.specs.Tests.{each_of, some_of, each_below, some_below}
-use Rattle.answer.proofs.Tests.{each_decides}
-use Rattle.operator.specs.Booleans.{some_is, each_is}
+-- Tests over the atoms of a part, atom by atom.
+use Rattle.std.proofs.Common.{◌≡◌, ℕ, Bool, true, false, ◌&&◌, ◌||◌, eqb, List, [], ◌∷◌, ◌++◌, refl, ap, ◌∙◌, inl, inr}
+use Rattle.std.proofs.lemmas.Bool.{and_parts, or_cases, or_left, or_right, eqb-true, false≢true}
+use Rattle.answer.specs.Tests.{each_of, some_of}
 
-some_decides : (t : ℕ → Bool) (xs : List ℕ) → Decides (some_of t xs) ((i : ℕ) × (i < length xs) × (t (get_or xs i 0) ≡ true))
-some_decides t xs =
-    Decides-like (some_of t xs) (λ h. (h.0, h.1, h.2 0))
-    (λ h. (h.0, h.1, λ d. subst (λ x. t x ≡ true) (get_or_default xs h.0 0 d h.1) h.2))
-    (Decides-by_or t (λ x. t x ≡ true) (some_of t) (λ x. (λ e. e, λ e. e)) refl (λ _ _. refl) xs)
+and_swap : (x y z : Bool) → (x && (y && z)) ≡ (y && (x && z))
+and_swap true y z = refl
+and_swap false true z = refl
+and_swap false false z = refl
 
-pub each_words : (t : ℕ → Bool) (part : List ℕ) → each_of t (words part) ≡ each_below (λ j. t (get_or (words part) j 0)) (length part / 2)
-each_words t part =
-    same_from_decides _ _ (each_decides t (words part)) (each_is (λ j. t (get_or (words part) j 0)) (length (words part)))
-    ∙ ap (each_below (λ j. t (get_or (words part) j 0))) (words-length part)
+or_swap : (x y z : Bool) → (x || (y || z)) ≡ (y || (x || z))
+or_swap false y z = refl
+or_swap true true z = refl
+or_swap true false z = refl
 
-pub some_words : (t : ℕ → Bool) (part : List ℕ) → some_of t (words part) ≡ some_below (λ j. t (get_or (words part) j 0)) (length part / 2)
-some_words t part =
-    same_from_decides _ _ (some_decides t (words part)) (some_is (λ j. t (get_or (words part) j 0)) (length (words part)))
-    ∙ ap (some_below (λ j. t (get_or (words part) j 0))) (words-length part)
+-- one atom more at the end
+pub each_last : (t : ℕ → Bool) (xs : List ℕ) (x : ℕ) → each_of t (xs ++ x ∷ []) ≡ (t x && each_of t xs)
+each_last t [] x = refl
+each_last t (y ∷ xs) x = ap (λ v. t y && v) (each_last t xs x) ∙ and_swap (t y) (t x) (each_of t xs)
+
+pub some_last : (t : ℕ → Bool) (xs : List ℕ) (x : ℕ) → some_of t (xs ++ x ∷ []) ≡ (t x || some_of t xs)
+some_last t [] x = refl
+some_last t (y ∷ xs) x = ap (λ v. t y || v) (some_last t xs x) ∙ or_swap (t y) (t x) (some_of t xs)
+
+-- an atom in the midst
+pub some_amid : (t : ℕ → Bool) (xs : List ℕ) (x : ℕ) (ys : List ℕ) → t x ≡ true → some_of t (xs ++ x ∷ ys) ≡ true
+some_amid t [] x ys e = or_left _ _ e
+some_amid t (y ∷ xs) x ys e = or_right (t y) _ (some_amid t xs x ys e)
+
+-- where every atom passes one test and some atom another, an atom passes both
+pub both_at : (t u : ℕ → Bool) (xs : List ℕ) → each_of t xs ≡ true → some_of u xs ≡ true → (x : ℕ) × (t x ≡ true) × (u x ≡ true)
+both_at t u [] e f = absurd (false≢true f)
+both_at t u (x ∷ xs) e f =
+    let a = and_parts (t x) (each_of t xs) e in
+    elim (or_cases (u x) (some_of u xs) f) [ inl z ↦ (x, a.0, z) | inr z ↦ both_at t u xs a.1 z ]
+
+-- what every atom passes, an atom of the part passes
+pub each_at : (t : ℕ → Bool) (c : ℕ) (xs : List ℕ) → each_of t xs ≡ true → some_of (eqb c) xs ≡ true → t c ≡ true
+each_at t c xs e f = let (x, h, z) = both_at t (eqb c) xs e f in rw (eqb-true c x z) h

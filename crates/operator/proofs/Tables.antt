@@ -1,5 +1,6 @@
 -- Flags noted rule by rule are the tests over the rules, and flags that agree with the tests make the same outcome.
-use Rattle.std.proofs.Common.{◌≡◌, ℕ, zero, suc, ◌+◌, ◌<◌, Bool, true, false, cond, ◌&&◌, ◌||◌, List, map, length, get_or, set, sym, refl, ap, ◌∙◌, subst, ap₂, zero-add, add-one, arith}
+use Rattle.std.proofs.Common.{◌≡◌, ℕ, zero, suc, ◌+◌, ◌<◌, Bool, true, false, not, cond, ◌&&◌, ◌||◌, eqb, List, map, length, get_or, set, sym, refl, ap, ◌∙◌, subst, ap₂, inl, inr, zero-add, add-one, arith, get_or-set_same, get_or-set_other}
+use Rattle.std.proofs.lemmas.Bool.{eq-eqb, ne_eqb, cases_eq}
 use Rattle.std.specs.List.{range_with_len}
 use Rattle.std.proofs.lemmas.List.FromFn.{fill_by_all, length-map-range_with_len, get_or-map-range_with_len}
 use Rattle.std.proofs.lemmas.List.Edits.{fill_by_more}
@@ -22,6 +23,33 @@ each_next x y z t k e f g = rw add-one (e ∙ ap₂ ◌&&◌ g f)
 
 pub fill_next : (f : ℕ → Bool) (xs : List Bool) (i : ℕ) (v : Bool) → i < length xs → ((k : ℕ) → k < i → get_or xs k false ≡ f k) → v ≡ f i → (k : ℕ) → k < i + 1 → get_or (set xs i v) k false ≡ f k
 fill_next f xs i v l h e k g = subst (λ v. get_or (set xs i v) k false ≡ f k) (sym e) (fill_by_more f xs i false l h k g)
+
+or_turned : (x v : Bool) → (x || v) ≡ (v || x)
+or_turned true true = refl
+or_turned true false = refl
+or_turned false true = refl
+or_turned false false = refl
+
+and_turned : (x v : Bool) → (x && v) ≡ (v && x)
+and_turned true true = refl
+and_turned true false = refl
+and_turned false true = refl
+and_turned false false = refl
+
+-- a flag that is set where v is, and one that stays where v is
+pub flag_or : (xs : List Bool) (h a : ℕ) (v : Bool) → h < length xs → get_or (set xs h (get_or xs h false || v)) a false ≡ ((eqb a h && v) || get_or xs a false)
+flag_or xs h a v l =
+    elim (cases_eq a h) [
+      | inl e ↦ rw (e, eq-eqb h h refl) (get_or-set_same xs h _ false l ∙ or_turned _ v)
+      | inr e ↦ rw (ne_eqb a h e) (get_or-set_other xs h a _ false e)
+    ]
+
+pub flag_and : (xs : List Bool) (h a : ℕ) (v : Bool) → h < length xs → get_or (set xs h (get_or xs h false && v)) a false ≡ ((not (eqb a h) || v) && get_or xs a false)
+flag_and xs h a v l =
+    elim (cases_eq a h) [
+      | inl e ↦ rw (e, eq-eqb h h refl) (get_or-set_same xs h _ false l ∙ and_turned _ v)
+      | inr e ↦ rw (ne_eqb a h e) (get_or-set_other xs h a _ false e)
+    ]
 
 some_same : (t u : ℕ → Bool) (n : ℕ) → ((i : ℕ) → i < n → t i ≡ u i) → some_below t n ≡ some_below u n
 some_same t u zero h = refl

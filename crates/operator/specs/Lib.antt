@@ -11,3 +11,4 @@ pub mod Pages
 pub mod Sets
 pub mod Deriving
 pub mod Layers
+pub mod Marks

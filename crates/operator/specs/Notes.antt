@@ -1,6 +1,6 @@
 -- What is noted of the objects, and when the notes say what an operator derives. Assumes nothing.
-use Rattle.std.specs.Prelude.{◌≡◌, ℕ, ◌-◌, ◌<◌, Bool, true, false, cond, List, nat_lt, slice_index_or}
-use Rattle.book.specs.Program.{ProgramRule, Program}
+use Rattle.std.specs.Prelude.{◌≡◌, ℕ, ◌-◌, ◌<◌, Bool, true, false, cond, Some, None, Option, nat_lt, slice_index_or}
+use Rattle.book.specs.Program.{Program}
 use Rattle.operator.specs.Operator.{Derived}
 use Rattle.operator.specs.declared.notes.Notes.{Notes}
 
@@ -8,9 +8,9 @@ use Rattle.operator.specs.declared.notes.Notes.{Notes}
 abbrev pub side : ℕ → (ℕ → Bool → Bool) → (ℕ → Bool → Bool) → ℕ → Bool
 side n atom body i = elim (nat_lt i n) [ true ↦ atom i false | false ↦ body (i - n) false ]
 
--- 2 for in, 1 for out, both together 3
-abbrev pub code : Bool → Bool → ℕ
-code inn out = cond inn (cond out 3 2) (cond out 1 0)
+-- the mark of an object that is to be in, or out, or neither; none where it is to be both
+abbrev pub code : Bool → Bool → Option ℕ
+code inn out = cond inn (cond out None (Some 2)) (cond out (Some 1) (Some 0))
 
 -- the flags as tests of the objects
 abbrev pub tests : Notes → Derived
@@ -27,7 +27,3 @@ pub record Noted (b : Program) (k : ℕ) (t : Notes) (d : Derived) : Type 0 wher
   pub atom_out : (a : ℕ) → a < b.atoms → (tests t).atom_out a ≡ d.atom_out a
   pub body_in : (r : ℕ) → r < k → (tests t).body_in r ≡ d.body_in r
   pub body_out : (r : ℕ) → r < k → (tests t).body_out r ≡ d.body_out r
-
--- a rule by its two parts alone
-abbrev pub parts : List ℕ → List ℕ → ProgramRule
-parts ps ns = record { head = 0; positives = ps; negatives = ns }

@@ -1,5 +1,7 @@
 -- How a part of a body stands against the marks of a page. Assumes nothing.
-use Rattle.std.specs.Prelude.{ℕ, Bool, true, false, cond, List, ◌==◌, slice_index}
+use Rattle.std.specs.Prelude.{ℕ, Bool, true, false, cond, ◌==◌}
+use Rattle.operator.specs.declared.part.Sign.{Sign}
+use Rattle.operator.specs.declared.part.Sign.TheVariants.{Positive, Negative}
 use Rattle.operator.specs.declared.part.Part.{Part}
 use Rattle.operator.specs.declared.part.Part.TheVariants.{Failed, Satisfied, Lone, Open}
 
@@ -31,6 +33,11 @@ joined_by Satisfied a = Lone a
 joined_by (Lone c) a = cond (c == a) (Lone c) Open
 joined_by Open a = Open
 
--- the atom has the mark
-abbrev pub met : List ℕ → ℕ → ℕ → Bool
-met p m a = slice_index p a == m
+-- the mark of an atom that satisfies a literal, and the one by which it fails
+abbrev pub meeting : Sign → ℕ
+meeting Positive = 2
+meeting Negative = 1
+
+abbrev pub failing : Sign → ℕ
+failing Positive = 1
+failing Negative = 2

@@ -5,9 +5,10 @@
 
 pub mod backward;
 pub mod forward;
+mod marks;
 mod notes;
 pub mod operator;
 pub mod page;
 mod part;
-mod rules;
+mod plain;
 pub mod unfounded;

@@ -9,6 +9,7 @@ use book::book::Book;
 use book::refusal::Refusal;
 
 // What an operator answers: the page has its new marks, or it clashed and the marks are as they were.
+// No `Result`: a clash is no failure of the call, which declines by a refusal.
 #[derive(Clone, Copy, PartialEq, Eq, Debug)]
 pub enum Verdict {
     Marked,
@@ -19,7 +20,8 @@ pub trait Operator {
     // a function from a book and a page to a page or a clash
     ghost meaning: { Self → Meaning };
 
-    // Changes the page into the one that the meaning gives, or answers clash and leaves the marks.
+    // Changes the page into the one that the meaning gives, or answers clash and leaves the marks. A page is the
+    // caller's own bytes, and any book may come with it: so the two are apart here, and tested.
     // Declines a page that is not of n + m bytes, and then a mark above 2, and leaves the marks.
     fn apply(&mut self, book: &Book, page: &mut [u8]) -> Result<Verdict, Refusal>
         ensures declines { result_err result ≡ page_fault (program_of book.now) page.old }

@@ -10,7 +10,7 @@ use book::book::Book;
 use book::limits::{MAX_ATOMS, MAX_RULES};
 use book::refusal::Refusal;
 
-// The marks of an object; 0 leaves it open.
+// The marks of an object; 0 leaves it open. They are bytes, since a page is lent as bytes.
 pub const OUT: u8 = 1;
 
 pub const IN: u8 = 2;

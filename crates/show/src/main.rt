@@ -3,10 +3,26 @@
 #![tactic(auto)]
 
 use book::book::Book;
-use book::book::rules::{Rule, atom_at};
+use book::book::iter::Atoms;
+use book::book::rules::Rule;
 use std::fmt;
-use std::fmt::Write;
 use std::io::Read;
+
+// A literal of a body: an atom that must be in, or one that must be out.
+#[derive(Clone, Copy)]
+enum Literal {
+    Positive(usize),
+    Negative(usize),
+}
+
+impl fmt::Display for Literal {
+    fn fmt<W: fmt::Write>(&self, f: &mut fmt::Formatter<W>) -> fmt::Result {
+        match self {
+            Literal::Positive(atom) => write!(f, "{atom}"),
+            Literal::Negative(atom) => write!(f, "not {atom}"),
+        }
+    }
+}
 
 // A rule as a line: the head, and after an arrow what must be in and what must be out.
 #[derive(Drop)]
@@ -16,45 +32,40 @@ impl fmt::Display for Line<'_> {
     fn fmt<W: fmt::Write>(&self, f: &mut fmt::Formatter<W>) -> fmt::Result {
         let head = self.0.head;
         write!(f, "{head}")?;
-        let mut before = " <- ";
-        for i in 0..self.0.positives.len() / 2 {
-            let atom = atom_at(self.0.positives, i);
-            write!(f, "{before}{atom}")?;
-            before = ", ";
-        }
-        for i in 0..self.0.negatives.len() / 2 {
-            let atom = atom_at(self.0.negatives, i);
-            write!(f, "{before}not {atom}")?;
-            before = ", ";
+        let positives = Atoms::of(self.0.positives).map(Literal::Positive);
+        let negatives = Atoms::of(self.0.negatives).map(Literal::Negative);
+        let mut first = true;
+        for literal in positives.chain(negatives) {
+            let before = if first { " <- " } else { ", " };
+            write!(f, "{before}{literal}")?;
+            first = false;
         }
         Ok(())
     }
 }
 
-// Writes the lines of a book in use.
-fn write_book(book: &Book, text: &mut String) -> anyhow::Result<()> {
-    let atoms = book.atoms();
-    let rules = book.rules();
-    writeln!(text, "atoms {atoms} rules {rules}")?;
-    for number in 0..rules {
-        let Ok(rule) = book.rule(number) else {
-            unreachable()
-        };
-        let line = Line(rule);
-        writeln!(text, "{line}")?;
+// A book as lines: its counts, and a line for each rule.
+#[derive(Drop)]
+struct Lines<'a>(Book<'a>);
+
+impl fmt::Display for Lines<'_> {
+    fn fmt<W: fmt::Write>(&self, f: &mut fmt::Formatter<W>) -> fmt::Result {
+        let atoms = self.0.atoms();
+        let rules = self.0.rules();
+        writeln!(f, "atoms {atoms} rules {rules}")?;
+        for line in self.0.iter().map(Line) {
+            writeln!(f, "{line}")?;
+        }
+        Ok(())
     }
-    Ok(())
 }
 
 fn main(rt: HostRuntime) -> anyhow::Result<()> {
     let mut input = Vec::new(rt.alloc());
     rt.stdin().read_to_end(&mut input)?;
-    let mut text = String::new(rt.alloc());
-    let mut book = Book::empty();
-    match book.read(input.as_slice()) {
-        Ok(()) => write_book(&book, &mut text)?,
-        Err(fault) => writeln!(text, "{fault}")?,
+    match Book::try_from(input.as_slice()) {
+        Ok(book) => rt.print(Lines(book))?,
+        Err(fault) => rt.println(fault)?,
     }
-    rt.print(text.as_str())?;
     Ok(())
 }

@@ -1,7 +1,9 @@
 // Operators and stacks, each applied once to a page.
+use crate::books::{book_named, book_of, test_books};
 use crate::fields;
+use crate::fields::{Field, prints_as};
 use crate::tally::Tally;
-use anyhow::{Context, anyhow};
+use anyhow::{Context, bail};
 use book::book::Book;
 use layers::lookahead::Lookahead;
 use layers::stacks::{Basic, Full};
@@ -10,110 +12,76 @@ use operator::forward::Forward;
 use operator::operator::{Operator, Verdict};
 use operator::page::{IN, OUT};
 use operator::unfounded::Unfounded;
-use std::alloc::Global;
+use std::alloc::{AllocError, Global};
 
 // NAME OPERATOR PAGE = PAGE, or = clash; the book of the name stands among the registers.
 pub(crate) fn pages(rt: &HostRuntime, registers: &str, vectors: &str) -> anyhow::Result<Tally> {
-    let mut tally = Tally::new();
+    let mut tally = Tally::default();
     for line in vectors.lines() {
         let (asked, expected) = line.split_once(" = ").context("no answer")?;
         let (name, rest) = fields::split(asked);
         let (operator, page) = fields::split(rest);
-        let bytes = fields::bytes(rt.alloc(), book_named(registers, name))?;
-        let mut book = Book::empty();
-        if book.read(bytes.as_slice()).is_err() {
-            return Err(anyhow!("a book is declined"));
-        }
-        let mut marks = fields::digits(rt.alloc(), page)?;
-        let verdict = apply_named(operator, &book, marks.as_mut_slice())?;
-        let got = shown(rt.alloc(), verdict, marks.as_slice())?;
-        tally.note(rt, line, got.as_str() == expected)?;
+        let bytes = fields::bytes(rt.alloc(), book_named(registers, name)?)?;
+        let book = book_of(bytes.as_slice())?;
+        let mut page = fields::digits(rt.alloc(), page)?;
+        let same = match apply_named(operator, &book, page.as_mut_slice())? {
+            Verdict::Clash => expected == "clash",
+            Verdict::Marked => prints_as(rt.alloc(), Field(page.as_slice()), expected)?,
+        };
+        tally.note(rt, line, same)?;
     }
     Ok(tally)
 }
 
-// NAME BOOK COUNT SHEET ..: what the two stacks make of the open page fits every sheet of the register, and a stack
+// Each arm applies its own: one `&mut dyn Operator` made in the arms was tried, and the borrow checker does not cover it.
+fn apply_named(name: &str, book: &Book, page: &mut [u8]) -> anyhow::Result<Verdict> {
+    let answer = match name {
+        "forward" => Forward.apply(book, page),
+        "backward" => Backward.apply(book, page),
+        "unfounded" => Unfounded.apply(book, page),
+        "basic" => Basic.apply(book, page),
+        "full" => Full.apply(book, page),
+        "lookahead-basic" => Lookahead { below: Basic }.apply(book, page),
+        _ => bail!("no such operator"),
+    };
+    answer.context("a page is declined")
+}
+
+// NAME BOOK COUNT SHEET ..: what the stack makes of the open page fits every sheet of the register, and the stack
 // clashes only where there is none.
-pub(crate) fn open_pages(rt: &HostRuntime, registers: &str) -> anyhow::Result<Tally> {
-    let mut tally = Tally::new();
-    for line in registers.lines() {
-        let (name, rest) = fields::split(line);
-        let (text, register) = fields::split(rest);
-        let bytes = fields::bytes(rt.alloc(), text)?;
-        let mut book = Book::empty();
-        if book.read(bytes.as_slice()).is_err() {
-            return Err(anyhow!("a book is declined"));
-        }
-        let same = stack_fits(rt.alloc(), Basic, &book, register)?;
-        tally.note(rt, name, same)?;
-        let same = stack_fits(rt.alloc(), Full, &book, register)?;
-        tally.note(rt, name, same)?;
-    }
-    Ok(tally)
+pub(crate) fn open_pages<O: Operator + Copy>(
+    rt: &HostRuntime,
+    registers: &str,
+    stack: O,
+) -> anyhow::Result<Tally> {
+    test_books(rt, registers, |book, register| {
+        Ok(Some(stack_fits(rt.alloc(), stack, book, register)?))
+    })
 }
 
 fn stack_fits<O: Operator + Drop>(
     heap: Global,
-    stack: O,
+    mut stack: O,
     book: &Book,
     register: &str,
 ) -> anyhow::Result<bool> {
     let mut page = vec![in heap; 0; book.atoms() + book.rules()]?;
-    match applied(stack, book, page.as_mut_slice())? {
+    match stack.apply(book, page.as_mut_slice())? {
         Verdict::Clash => Ok(register == "0"),
-        Verdict::Marked => all_fit(heap, page.as_slice(), register),
+        Verdict::Marked => Ok(all_fit(heap, page.as_slice(), register)?),
     }
 }
 
-fn all_fit(heap: Global, page: &[u8], register: &str) -> anyhow::Result<bool> {
-    for text in register.split(' ').skip(1) {
-        let sheet = fields::digits(heap, text)?;
-        for (mark, value) in page.iter().zip(sheet.iter()) {
-            if *mark == OUT && *value != 0 || *mark == IN && *value != 1 {
-                return Ok(false);
-            }
-        }
-    }
-    Ok(true)
+fn all_fit(heap: Global, page: &[u8], register: &str) -> Result<bool, AllocError> {
+    let sheets = fields::sheets(heap, register)?;
+    Ok(sheets.iter().all(|sheet| fits(page, sheet.as_slice())))
 }
 
-fn book_named<'a>(registers: &'a str, wanted: &str) -> &'a str {
-    for line in registers.lines() {
-        let (name, rest) = fields::split(line);
-        if name == wanted {
-            let (book, _) = fields::split(rest);
-            return book;
-        }
-    }
-    "-"
-}
-
-fn apply_named(operator: &str, book: &Book, page: &mut [u8]) -> anyhow::Result<Verdict> {
-    match operator {
-        "forward" => applied(Forward, book, page),
-        "backward" => applied(Backward, book, page),
-        "unfounded" => applied(Unfounded, book, page),
-        "basic" => applied(Basic, book, page),
-        "full" => applied(Full, book, page),
-        "lookahead-basic" => applied(Lookahead { below: Basic }, book, page),
-        _ => Err(anyhow!("no such operator")),
-    }
-}
-
-fn applied<O: Operator + Drop>(
-    mut operator: O,
-    book: &Book,
-    page: &mut [u8],
-) -> anyhow::Result<Verdict> {
-    match operator.apply(book, page) {
-        Ok(verdict) => Ok(verdict),
-        Err(_) => Err(anyhow!("a page is declined")),
-    }
-}
-
-fn shown(heap: Global, verdict: Verdict, page: &[u8]) -> anyhow::Result<String> {
-    match verdict {
-        Verdict::Clash => Ok(format!(in heap; "clash")?),
-        Verdict::Marked => fields::shown(heap, page),
-    }
+// Whether each atom that the page marks, a byte each, is as in the sheet.
+fn fits(page: &[u8], sheet: &[u8]) -> bool {
+    page.iter().zip(sheet).all(|(&mark, &value)| match mark {
+        OUT => value == 0,
+        IN => value == 1,
+        _ => true,
+    })
 }

@@ -1,96 +1,78 @@
 // Registers that an existing solver made, held against the check of sheets.
-ghost use Rattle.std.specs.Prelude.{◌≤◌, length};
+ghost use Rattle.std.specs.Prelude.{◌≤◌};
+ghost use Rattle.book.specs.Reading.{program_of};
 
-use crate::fields;
+use crate::books::test_books;
+use crate::fields::{Field, sheets};
 use crate::tally::Tally;
 use answer::check::check;
 use answer::order::smaller;
 use book::book::Book;
-use std::alloc::Global;
+use std::alloc::{AllocError, Global};
+use std::fmt::Write;
 
 // Of a book of so many atoms every sheet is checked.
 const SMALL: usize = 12;
 
 // NAME BOOK COUNT SHEET SHEET .., of the books of few atoms: the sheets that pass, of all, are the register.
 pub(crate) fn small_books(rt: &HostRuntime, vectors: &str) -> anyhow::Result<Tally> {
-    let mut tally = Tally::new();
-    for line in vectors.lines() {
-        let (name, rest) = fields::split(line);
-        let (text, register) = fields::split(rest);
-        let bytes = fields::bytes(rt.alloc(), text)?;
-        let mut book = Book::empty();
-        if book.read(bytes.as_slice()).is_ok() && book.atoms() <= SMALL {
-            let mut sheet = [0; SMALL];
-            let listed = register_of(rt.alloc(), &book, &mut sheet[0..book.atoms()])?;
-            tally.note(rt, name, listed.as_str() == register)?;
+    test_books(rt, vectors, |book, register| {
+        if book.atoms() > SMALL {
+            return Ok(None);
         }
-    }
-    Ok(tally)
+        let listed = register_of(rt.alloc(), book)?;
+        Ok(Some(listed.as_str() == register))
+    })
 }
 
 // The same lines, of the other books: each sheet of the register passes, and they ascend.
 pub(crate) fn large_books(rt: &HostRuntime, vectors: &str) -> anyhow::Result<Tally> {
-    let mut tally = Tally::new();
-    for line in vectors.lines() {
-        let (name, rest) = fields::split(line);
-        let (text, register) = fields::split(rest);
-        let bytes = fields::bytes(rt.alloc(), text)?;
-        let mut book = Book::empty();
-        if book.read(bytes.as_slice()).is_ok() && book.atoms() > SMALL {
-            let same = all_pass(rt.alloc(), &book, register)?;
-            tally.note(rt, name, same)?;
+    test_books(rt, vectors, |book, register| {
+        if book.atoms() <= SMALL {
+            return Ok(None);
         }
-    }
-    Ok(tally)
+        Ok(Some(all_pass(rt.alloc(), book, register)?))
+    })
 }
 
 // How many sheets pass, and which, from the sheet of no atoms on: as a vector writes it.
-fn register_of(heap: Global, book: &Book, sheet: &mut [u8]) -> anyhow::Result<String>
-    requires { length sheet.old ≤ 12 }
+fn register_of(heap: Global, book: &Book) -> Result<String, AllocError>
+    requires { (program_of book.now).atoms ≤ 12 }
 {
+    let mut sheet = vec![in heap; 0; book.atoms()]?;
     let mut listed = String::new(heap);
     let mut count: u32 = 0;
-    for _ in 0..1usize << sheet.len() {
-        if passes(book, sheet) {
+    for _ in 0..1usize << book.atoms() {
+        if passes(book, sheet.as_slice()) {
             count = count.saturating_add(1);
-            listed.push(' ')?;
-            listed.push_str(fields::shown(heap, sheet)?.as_str())?;
+            write!(listed, " {}", Field(sheet.as_slice()))?;
         }
-        advance(sheet);
+        advance(sheet.as_mut_slice());
     }
-    Ok(format!(in heap; "{count}{listed}")?)
+    format!(in heap; "{count}{listed}")
 }
 
 fn passes(book: &Book, sheet: &[u8]) -> bool {
-    match check(book, sheet) {
-        Ok(passed) => passed,
-        Err(_) => false,
-    }
+    check(book, sheet).unwrap_or(false)
 }
 
 // The sheet after this one in the order of sheets, or the first after the last.
 fn advance(sheet: &mut [u8]) {
-    for a in (0..sheet.len()).rev() {
-        if sheet[a] == 0 {
-            sheet[a] = 1;
+    for value in sheet.iter_mut().rev() {
+        if *value == 0 {
+            *value = 1;
             return;
         }
-        sheet[a] = 0;
+        *value = 0;
     }
 }
 
 // Whether each sheet of a register passes, and is smaller than the next.
-fn all_pass(heap: Global, book: &Book, register: &str) -> anyhow::Result<bool> {
-    let mut before = Vec::new(heap);
-    for (i, text) in register.split(' ').skip(1).enumerate() {
-        let sheet = fields::digits(heap, text)?;
-        if !passes(book, sheet.as_slice()) {
-            return Ok(false);
-        }
-        if i > 0 && !smaller(before.as_slice(), sheet.as_slice()) {
-            return Ok(false);
-        }
-        before = sheet;
-    }
-    Ok(true)
+fn all_pass(heap: Global, book: &Book, register: &str) -> Result<bool, AllocError> {
+    let sheets = sheets(heap, register)?;
+    let pass = sheets.iter().all(|sheet| passes(book, sheet.as_slice()));
+    let ascend = sheets
+        .iter()
+        .is_sorted_by(|a, b| smaller(a.as_slice(), b.as_slice()));
+    Ok(pass && ascend)
 }

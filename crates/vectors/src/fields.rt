@@ -1,60 +1,62 @@
-// The fields of a vector's line.
-ghost use Rattle.std.specs.Prelude.{◌<◌, IfOk};
-
-use anyhow::anyhow;
-use std::alloc::Global;
-
-fn digit(b: u8) -> anyhow::Result<u8>
-    ensures { IfOk result (λ d. d < 16) }
-{
-    match b {
-        b'0'..=b'9' => Ok(b - b'0'),
-        b'a'..=b'f' => Ok(b - b'a' + 10),
-        _ => Err(anyhow!("a field is not in hexadecimal")),
-    }
-}
-
-// The bytes of a field in hexadecimal; a dash stands for none.
-pub(crate) fn bytes(heap: Global, field: &str) -> anyhow::Result<Vec<u8>> {
-    let mut found = Vec::new(heap);
-    for pair in field.as_bytes().chunks_exact(2) {
-        if let [high, low] = pair {
-            found.push(digit(*high)? * 16 + digit(*low)?)?;
-        }
-    }
-    Ok(found)
-}
+// The fields of a vector's line. A dash stands for none, of bytes as of digits.
+use hex::FromHexError;
+use std::alloc::{AllocError, Global};
+use std::fmt;
+use std::fmt::Display;
 
 // The first field of a line, and the rest of the line.
 pub(crate) fn split(line: &str) -> (&str, &str) {
     line.split_once(' ').unwrap_or((line, ""))
 }
 
-// The digits of a sheet or a page, one a byte; a dash stands for none.
-pub(crate) fn digits(heap: Global, field: &str) -> anyhow::Result<Vec<u8>> {
-    let mut found = Vec::new(heap);
-    if field == "-" {
-        return Ok(found);
-    }
-    for digit in field.as_bytes() {
-        found.push(digit.wrapping_sub(b'0'))?;
-    }
-    Ok(found)
+fn none_for_dash(field: &str) -> &str {
+    if field == "-" { "" } else { field }
 }
 
-// Bytes of one digit each as a field; a dash for none.
-pub(crate) fn shown(heap: Global, bytes: &[u8]) -> anyhow::Result<String> {
-    let mut field = String::new(heap);
-    if bytes.is_empty() {
-        field.push('-')?;
+// The bytes of a field in hexadecimal.
+pub(crate) fn bytes(heap: Global, field: &str) -> Result<Vec<u8>, FromHexError> {
+    hex::decode(heap, none_for_dash(field))
+}
+
+// The digits of a sheet or a page, one a byte.
+pub(crate) fn digits(heap: Global, field: &str) -> Result<Vec<u8>, AllocError> {
+    none_for_dash(field)
+        .bytes()
+        .map(|digit| digit.wrapping_sub(b'0'))
+        .collect(heap)
+}
+
+// The sheets of a register, which is COUNT SHEET SHEET ..
+pub(crate) fn sheets(heap: Global, register: &str) -> Result<Vec<Vec<u8>>, AllocError> {
+    register
+        .split(' ')
+        .skip(1)
+        .map(|sheet| digits(heap, sheet))
+        .try_collect(heap)
+}
+
+// A sheet or a page as a field.
+#[derive(Clone, Copy)]
+pub(crate) struct Field<'a>(pub(crate) &'a [u8]);
+
+impl Display for Field<'_> {
+    fn fmt<W: fmt::Write>(&self, f: &mut fmt::Formatter<W>) -> fmt::Result {
+        if self.0.is_empty() {
+            return f.write_str("-");
+        }
+        for digit in self.0 {
+            write!(f, "{digit}")?;
+        }
+        Ok(())
     }
-    for byte in bytes {
-        field.push(match *byte {
-            0 => '0',
-            1 => '1',
-            2 => '2',
-            _ => '?',
-        })?;
-    }
-    Ok(field)
+}
+
+// Whether a value is printed as a vector expects it.
+pub(crate) fn prints_as(
+    heap: Global,
+    value: impl Display + Drop,
+    expected: &str,
+) -> Result<bool, AllocError> {
+    let text = value.to_string(heap)?;
+    Ok(text.as_str() == expected)
 }

@@ -3,12 +3,14 @@
 #![tactic(auto)]
 
 mod applying;
+mod books;
 mod checking;
 mod drafting;
 mod fields;
 mod reading;
 mod tally;
 
+use layers::stacks::{Basic, Full};
 use std::fs;
 
 fn main(rt: HostRuntime) -> anyhow::Result<()> {
@@ -29,10 +31,9 @@ fn main(rt: HostRuntime) -> anyhow::Result<()> {
     )?;
     let pages = fs::read_to_string(&rt, "pages.txt")?;
     applying::pages(&rt, registers.as_str(), pages.as_str())?.report(&rt, "operators on pages")?;
-    applying::open_pages(&rt, registers.as_str())?.report(
-        &rt,
-        "stacks on open pages, held to the registers",
-    )?;
+    let basic = applying::open_pages(&rt, registers.as_str(), Basic)?;
+    let full = applying::open_pages(&rt, registers.as_str(), Full)?;
+    (basic + full).report(&rt, "stacks on open pages, held to the registers")?;
     drafting::rewritten(&rt, registers.as_str())?.report(&rt, "books written again from a draft")?;
     let drafts = fs::read_to_string(&rt, "drafts.txt")?;
     drafting::scripts(&rt, drafts.as_str())?.report(&rt, "calls of drafts")

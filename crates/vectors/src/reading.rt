@@ -1,43 +1,40 @@
 // Books that reading declines, and books that it accepts.
-use crate::fields;
+use crate::books::test_bytes;
+use crate::fields::prints_as;
 use crate::tally::Tally;
 use book::book::Book;
 use book::faults::BookFault;
-use std::alloc::Global;
+use std::fmt;
 
-// The rule of a fault and its line, as a vector has them.
-fn described(heap: Global, fault: BookFault) -> anyhow::Result<String> {
-    match fault.fault.rule {
-        Some(rule) => Ok(format!(in heap; "{rule} {fault}")?),
-        None => Ok(format!(in heap; "- {fault}")?),
+// What reading answers as a vector has it, a fault with its rule before its line.
+#[derive(Clone, Copy)]
+struct Answer(Result<(), BookFault>);
+
+impl fmt::Display for Answer {
+    fn fmt<W: fmt::Write>(&self, f: &mut fmt::Formatter<W>) -> fmt::Result {
+        match self.0 {
+            Ok(()) => f.write_str("accepted"),
+            Err(fault) => match fault.fault.rule {
+                Some(rule) => write!(f, "{rule} {fault}"),
+                None => write!(f, "- {fault}"),
+            },
+        }
     }
 }
 
 // NAME BOOK RULE fault LAYER CAUSE BYTE
 pub(crate) fn declined(rt: &HostRuntime, vectors: &str) -> anyhow::Result<Tally> {
-    let mut tally = Tally::new();
-    for line in vectors.lines() {
-        let (name, rest) = fields::split(line);
-        let (book, expected) = fields::split(rest);
-        let bytes = fields::bytes(rt.alloc(), book)?;
-        let same = match Book::empty().read(bytes.as_slice()) {
-            Ok(()) => false,
-            Err(fault) => described(rt.alloc(), fault)?.as_str() == expected,
-        };
-        tally.note(rt, name, same)?;
-    }
-    Ok(tally)
+    test_bytes(rt, vectors, |bytes, expected| {
+        let answer = Answer(Book::empty().read(bytes));
+        Ok(Some(prints_as(rt.alloc(), answer, expected)?))
+    })
 }
 
 // NAME BOOK COUNT SHEET SHEET ..
 pub(crate) fn accepted(rt: &HostRuntime, vectors: &str) -> anyhow::Result<Tally> {
-    let mut tally = Tally::new();
-    for line in vectors.lines() {
-        let (name, rest) = fields::split(line);
-        let (book, _) = fields::split(rest);
-        let bytes = fields::bytes(rt.alloc(), book)?;
-        let same = Book::empty().read(bytes.as_slice()).is_ok();
-        tally.note(rt, name, same)?;
-    }
-    Ok(tally)
+    test_bytes(
+        rt,
+        vectors,
+        |bytes, _| Ok(Some(Book::empty().read(bytes).is_ok())),
+    )
 }

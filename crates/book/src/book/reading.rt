@@ -3,14 +3,25 @@ ghost use Rattle.std.specs.Prelude.{◌≡◌, None, MatchResult};
 ghost use Rattle.std.specs.Result.{result_err};
 ghost use Rattle.book.specs.Program.{no_rules};
 ghost use Rattle.book.specs.Layout.{decode};
-ghost use Rattle.book.specs.Counted.{Counted};
-ghost use Rattle.book.specs.Reading.{held, program_of, Holds, HoldsNone, DifferentForms};
+ghost use Rattle.book.specs.Reading.{held, program_of, Holds, HoldsNone, DifferentForms, Reads};
 ghost use Rattle.book.specs.Diagnosis.{layout_fault, diagnose};
 
 use crate::book::Book;
 use crate::faults::BookFault;
-use crate::header::Counts;
+use crate::header::Header;
 use crate::layout::check_layout;
+
+// The book that the bytes hold, or their first fault in the order of the layers.
+impl<'a> TryFrom<&'a [u8]> for Book<'a> {
+    type Error = BookFault;
+
+    ghost try_from_gives = { Reads };
+
+    fn try_from(bytes: &'a [u8]) -> Result<Book<'a>, BookFault> {
+        let header = check_layout(bytes)?;
+        Ok(Book::of_header(header))
+    }
+}
 
 impl<'a> Book<'a> {
     // The book of no atoms and no rules.
@@ -25,15 +36,16 @@ impl<'a> Book<'a> {
     }
 
     // The book of bytes that have no fault, with the counts that they open with.
-    fn of_layout(bytes: &'a [u8], counts: Counts) -> Book<'a>
-        requires { Counted bytes.now counts × (layout_fault bytes.now ≡ None) × Holds bytes.now (decode bytes.now) }
-        ensures held { held result ≡ bytes.now }
-        ensures holds { Holds bytes.now (program_of result) }
+    fn of_header(header: Header<'a>) -> Book<'a>
+        requires sound { layout_fault header.bytes.now ≡ None }
+        requires holds { Holds header.bytes.now (decode header.bytes.now) }
+        ensures held { held result ≡ header.entry.bytes.now }
+        ensures holds { Holds header.entry.bytes.now (program_of result) }
     {
         Book {
-            bytes,
-            atoms: counts.atoms,
-            rules: counts.rules,
+            bytes: header.bytes,
+            atoms: header.atoms,
+            rules: header.rules,
         }
     }
 
@@ -45,8 +57,7 @@ impl<'a> Book<'a> {
         ensures after { MatchResult result (λ _. held self.new ≡ bytes.now) (λ _. self.new ≡ self.old) }
         ensures different { DifferentForms }
     {
-        let counts = check_layout(bytes)?;
-        *self = Book::of_layout(bytes, counts);
+        *self = Book::try_from(bytes)?;
         Ok(())
     }
 }

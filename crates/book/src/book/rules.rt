@@ -6,9 +6,11 @@ ghost use Rattle.book.specs.Refusal.{refuse};
 ghost use Rattle.book.specs.Program.{rule_count, nth_rule, ProperRule, Valid};
 ghost use Rattle.book.specs.Layout.{rules_in, head_at, positive_part, negative_part, words};
 ghost use Rattle.book.specs.Reading.{held, program_of, rule_of};
+ghost use Rattle.book.specs.Handing.{rules_book, rules_next};
 
 use crate::bodies::word_at;
 use crate::book::Book;
+use crate::book::iter::Rules;
 use crate::contents::entry_at;
 use crate::refusal::{Cause, Refusal};
 
@@ -26,7 +28,6 @@ impl<'a> Book<'a> {
         ensures atoms { result ≡ (program_of self.now).atoms }
         ensures valid { Valid (program_of self.now) }
     {
-        self.see_valid();
         self.atoms
     }
 
@@ -51,24 +52,8 @@ impl<'a> Book<'a> {
         Ok(self.rule_at(number))
     }
 
-    // What the bytes of a book in use keep makes its program valid.
-    fn see_valid(&self)
-        ensures { Valid (program_of self.now) }
-    {}
-
-    // Rule k, which the book has.
-    fn rule_at(&self, k: usize) -> Rule<'a>
-        requires { k < rules_in (held self.now) }
-        ensures rule { rule_of result ≡ nth_rule (program_of self.now) k }
-        ensures positives { result.positives.now ≡ positive_part (held self.now) k }
-        ensures negatives { result.negatives.now ≡ negative_part (held self.now) k }
-        ensures proper { ProperRule (program_of self.now).atoms (rule_of result) }
-    {
-        self.slices(k)
-    }
-
     // Rule k as it stands in the bytes.
-    fn slices(&self, k: usize) -> Rule<'a>
+    fn rule_at(&self, k: usize) -> Rule<'a>
         requires { k < rules_in (held self.now) }
         ensures head { result.head ≡ head_at (held self.now) k }
         ensures positives { result.positives.now ≡ positive_part (held self.now) k }
@@ -84,29 +69,26 @@ impl<'a> Book<'a> {
             negatives: &self.bytes[mid..to],
         }
     }
+
+    // The rules in the order of their numbers.
+    pub fn iter(&self) -> Rules<'a>
+        ensures book { rules_book result ≡ self.now }
+        ensures first { rules_next result ≡ 0 }
+    {
+        Rules {
+            book: *self,
+            next: 0,
+        }
+    }
 }
 
 // Atom i of a part of a rule, or 0 past its end.
 pub fn atom_at(part: &[u8], i: usize) -> usize
     ensures { result ≡ slice_index (words part.now) i }
 {
-    if i >= part.len() / 2 {
-        return no_atom(part, i);
+    if i < part.len() / 2 {
+        word_at(part, 2 * i)
+    } else {
+        0
     }
-    nth_word(part, i)
-}
-
-// Words are shut to the search, so each side of `atom_at` has its own proof.
-fn no_atom(part: &[u8], i: usize) -> usize
-    requires { length part.now / 2 ≤ i }
-    ensures { result ≡ slice_index (words part.now) i }
-{
-    0
-}
-
-fn nth_word(part: &[u8], i: usize) -> usize
-    requires { i < length part.now / 2 }
-    ensures { result ≡ slice_index (words part.now) i }
-{
-    word_at(part, 2 * i)
 }

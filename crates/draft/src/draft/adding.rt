@@ -1,13 +1,13 @@
 // How a draft grows by a rule.
-ghost use Rattle.std.specs.Prelude.{◌≡◌, MatchResult, OnOk};
+ghost use Rattle.std.specs.Prelude.{◌≡◌, length, MatchResult};
 ghost use Rattle.std.specs.Result.{result_err};
 ghost use Rattle.book.specs.Program.{rule_count, total};
 ghost use Rattle.draft.specs.Adding.{rule_by, with_rule, room_fault, add_fault, Addable};
+ghost use Rattle.draft.specs.NewRule.{given};
 ghost use Rattle.draft.specs.Drafting.{drafted};
 
-use crate::bytes::{entry_bytes, put, put_atoms};
 use crate::draft::{Draft, MAX_PART};
-use crate::literals::check_part;
+use crate::new_rule::NewRule;
 use book::limits::{MAX_LITERALS, MAX_RULES};
 use book::refusal::{Cause, Refusal};
 
@@ -24,60 +24,49 @@ impl Draft {
         ensures declines { result_err result ≡ add_fault (drafted self.old) (rule_by head positives.now negatives.now) }
         ensures after { MatchResult result (λ _. drafted self.new ≡ with_rule (drafted self.old) (rule_by head positives.now negatives.now)) (λ _. self.new ≡ self.old) }
     {
-        self.admit(head, positives, negatives)?;
-        self.append(head, positives, negatives);
+        let rule = NewRule {
+            head,
+            positives,
+            negatives,
+        };
+        self.check_rule(&rule)?;
+        self.append(&rule);
         Ok(())
     }
 
-    // The room for one more rule with parts of so many atoms.
-    fn check_room(&self, positives: usize, negatives: usize) -> Result<(), Refusal>
-        ensures { result_err result ≡ room_fault (rule_count (drafted self.now)) (total (drafted self.now).rules) positives negatives }
+    // The tests of a rule, in their order: its head, the room for it, its literals.
+    fn check_rule(&self, rule: &NewRule) -> Result<(), Refusal>
+        ensures { result_err result ≡ add_fault (drafted self.now) (given rule.now) }
     {
-        if self.rules >= MAX_RULES
+        rule.check_head(self.atoms)?;
+        self.check_room(rule)?;
+        rule.check_literals(self.atoms)
+    }
+
+    // The room for one more rule.
+    fn check_room(&self, rule: &NewRule) -> Result<(), Refusal>
+        ensures { result_err result ≡ room_fault (rule_count (drafted self.now)) (total (drafted self.now).rules) (length rule.now.positives.now) (length rule.now.negatives.now) }
+    {
+        let positives = rule.positives.len();
+        let negatives = rule.negatives.len();
+        if self.rules() >= MAX_RULES
             || positives > MAX_PART
             || negatives > MAX_PART
-            || self.literals + (positives + negatives) > MAX_LITERALS
+            || self.literals() + (positives + negatives) > MAX_LITERALS
         {
             return Err(Refusal::new(Cause::Full, 0));
         }
         Ok(())
     }
 
-    // The tests of a rule, in their order: its head, the room for it, its literals.
-    fn check_rule(
-        &self,
-        head: usize,
-        positives: &[usize],
-        negatives: &[usize],
-    ) -> Result<(), Refusal>
-        ensures { result_err result ≡ add_fault (drafted self.now) (rule_by head positives.now negatives.now) }
-    {
-        if head >= self.atoms {
-            return Err(Refusal::new(Cause::Head, 0));
-        }
-        self.check_room(positives.len(), negatives.len())?;
-        check_part(self.atoms, positives, 0)?;
-        check_part(self.atoms, negatives, positives.len())
-    }
-
-    // A rule that is not declined keeps what `append` asks for.
-    fn admit(&self, head: usize, positives: &[usize], negatives: &[usize]) -> Result<(), Refusal>
-        ensures declines { result_err result ≡ add_fault (drafted self.now) (rule_by head positives.now negatives.now) }
-        ensures addable { OnOk result (Addable (drafted self.now) (rule_by head positives.now negatives.now)) }
-    {
-        self.check_rule(head, positives, negatives)
-    }
-
     // Puts the entry of the rule behind the contents, and its atoms behind the bodies.
-    fn append(&mut self, head: usize, positives: &[usize], negatives: &[usize])
-        requires { Addable (drafted self.old) (rule_by head positives.now negatives.now) }
-        ensures { drafted self.new ≡ with_rule (drafted self.old) (rule_by head positives.now negatives.now) }
+    fn append(&mut self, rule: &NewRule)
+        requires { Addable (drafted self.old) (given rule.now) }
+        ensures { drafted self.new ≡ with_rule (drafted self.old) (given rule.now) }
     {
-        let entry = entry_bytes(head, self.literals, positives.len(), negatives.len());
-        put(&mut self.contents, 6 * self.rules, &entry);
-        put_atoms(&mut self.bodies, self.literals, positives);
-        put_atoms(&mut self.bodies, self.literals + positives.len(), negatives);
-        self.rules += 1;
-        self.literals += positives.len() + negatives.len();
+        let entry = rule.entry(self.literals());
+        self.contents.push(entry);
+        self.bodies.push_atoms(rule.positives);
+        self.bodies.push_atoms(rule.negatives);
     }
 }

@@ -5,9 +5,19 @@ ghost use Rattle.book.specs.Program.{no_rules};
 ghost use Rattle.draft.specs.Adding.{start_fault};
 ghost use Rattle.draft.specs.Drafting.{drafted};
 
-use crate::draft::{BODIES, CONTENTS, Draft};
+use crate::draft::Draft;
+use crate::rows::Rows;
 use book::limits::MAX_ATOMS;
 use book::refusal::{Cause, Refusal};
+
+// By hand, since it can't be derived for a struct with ghost fields.
+impl Default for Draft {
+    ghost is_default = { λ d. drafted d ≡ no_rules 0 };
+
+    fn default() -> Draft {
+        Draft::new()
+    }
+}
 
 impl Draft {
     // The draft in hand at first: for no atoms, and without a rule.
@@ -37,10 +47,8 @@ impl Draft {
     {
         Draft {
             atoms,
-            rules: 0,
-            literals: 0,
-            contents: [0; CONTENTS],
-            bodies: [0; BODIES],
+            contents: Rows::new(),
+            bodies: Rows::new(),
         }
     }
 }

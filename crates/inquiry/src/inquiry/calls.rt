@@ -6,13 +6,17 @@ ghost use Rattle.inquiry.specs.Promise.{Promised};
 ghost use Rattle.inquiry.specs.Kinds.{finding, Written};
 ghost use Rattle.inquiry.specs.Answered.{held_book, held_state, said, said_done, Answered, Word, Keeps, Lists, Closes};
 
+use crate::admit::{check_next, check_wish};
 use crate::inquiry::Inquiry;
 use crate::kind::Reply;
 use crate::state::State;
+use answer::sheet::check_sheet;
 use book::book::Book;
+use book::limits::MAX_ATOMS;
 use book::refusal::Refusal;
 use operator::operator::Operator;
 
+// Each call says for itself that a decline changes nothing, since its contract is read alone.
 impl<'a> Inquiry<'a> {
     // An inquiry over the book: the cursor is none and all wishes are free.
     pub fn open(book: Book<'a>) -> Inquiry<'a>
@@ -42,8 +46,8 @@ impl<'a> Inquiry<'a> {
         ensures closes { IfOk result (λ x. Closes (held_book self.old) (held_state self.old) (finding x.kind (take (held_book self.old).atoms buffer.new))) }
         ensures same { O.Operator.meaning operator.new ≡ O.Operator.meaning operator.old }
     {
-        self.admit_next(operator, allowance, buffer.len())?;
-        Ok(self.go_on(operator, allowance, buffer))
+        check_next(self.book.atoms(), allowance, buffer.len())?;
+        Ok(self.state.advance(&self.book, operator, allowance, buffer))
     }
 
     // Sets one atom's wish, 0 for free, 1 for out or 2 for in, and starts the walk over.
@@ -52,8 +56,9 @@ impl<'a> Inquiry<'a> {
         ensures answered { Answered self.old (wishes atom value) (said_done result) self.new }
         ensures unchanged { OnErr result (self.new ≡ self.old) }
     {
-        self.admit_wish(atom, value)?;
-        self.set_wish(atom, value);
+        check_wish(self.book.atoms(), atom, value)?;
+        self.state.wishes[atom] = value;
+        self.state.restart(&self.book);
         Ok(())
     }
 
@@ -63,8 +68,12 @@ impl<'a> Inquiry<'a> {
         ensures answered { Answered self.old (seeks sheet.now) (said_done result) self.new }
         ensures unchanged { OnErr result (self.new ≡ self.old) }
     {
-        self.admit_seek(sheet)?;
-        self.set_cursor(sheet);
+        let n = self.book.atoms();
+        check_sheet(n, sheet)?;
+        let mut cursor = [0; MAX_ATOMS];
+        cursor[..n].copy_from_slice(sheet);
+        self.state.cursor = Some(cursor);
+        self.state.restart(&self.book);
         Ok(())
     }
 
@@ -72,6 +81,7 @@ impl<'a> Inquiry<'a> {
     pub fn rewind(&mut self)
         ensures { Answered self.old rewinds done self.new }
     {
-        self.set_no_cursor();
+        self.state.cursor = None;
+        self.state.restart(&self.book);
     }
 }

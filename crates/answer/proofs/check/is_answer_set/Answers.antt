@@ -1,6 +1,7 @@
-use Rattle.std.proofs.Common.{ℕ, Bool, List, ◌∙◌}
+use Rattle.std.proofs.Common.{ℕ, Bool, List, ◌∙◌, arith}
 use Rattle.book.specs.Program.{Program}
 use Rattle.book.specs.Reading.{program_of}
+use Rattle.book.proofs.Holding.{valid_book}
 use Rattle.answer.specs.Answer.{reduct, Least}
 use Rattle.answer.specs.Flags.{flagged}
 use Rattle.answer.proofs.Sheets.{least_like, reduct_by, answer_decides}
@@ -14,6 +15,9 @@ returns c =
     let used : ℕ → Bool = flagged c.reduct_rules-used.result in
     let t : ℕ → Bool = flagged c.least_atoms-least.result in
     let L : Least p (reduct p s) t =
-    least_like p used (reduct p s) t (λ r l. c.reduct_rules-used.ensures r l ∙ reduct_by p s out c.requires.valid c.outside_atoms-out.ensures r l)
+    least_like p used (reduct p s) t (λ r l. c.reduct_rules-used.ensures r l ∙ reduct_by p s out (valid_book c.args.book.now) c.outside_atoms-out.ensures r l)
     c.least_atoms-least.ensures in
-    answer_decides p s t c.requires.valid.proper c.requires.sheet L c.same_atoms.result (rw c.requires.sheet.long at c.same_atoms.ensures)
+    answer_decides p s t (valid_book c.args.book.now).proper c.requires L c.same_atoms.result (rw c.requires.long at c.same_atoms.ensures)
+
+pub same_atoms-requires : goal.same_atoms-requires
+same_atoms-requires c = let n = (valid_book c.args.book.now).limited.atoms in omega (arith, c.requires.long)

@@ -1,17 +1,10 @@
-use Rattle.std.proofs.Common.{sym, ap, ◌∙◌, arith}
-use Rattle.book.specs.Layout.{words}
+use Rattle.std.proofs.Common.{rules, ◌∙◌, ap}
+use Rattle.answer.specs.Tests.{each_of}
 use Rattle.answer.specs.Flags.{flagged}
-use Rattle.book.proofs.Parts.{words-length}
-use Rattle.answer.proofs.Tests.{each_decides, each_fails}
+use Rattle.answer.proofs.Chains.{all_is}
 use Rattle.answer.proofs.flags.all_flagged.Goals as goal
-
-pub returns-then-not-is_flagged : goal.returns-then-not-is_flagged
-returns-then-not-is_flagged c =
-    let e = words-length c.args.part.now in
-    sym (each_fails (flagged c.args.flags.now) (words c.args.part.now) c.loop-i.i (omega arith)
-    (ap (flagged c.args.flags.now) (sym c.atom_at.ensures) ∙ sym c.is_flagged.ensures ∙ c.if-not-is_flagged.true))
 
 pub returns : goal.returns
 returns c =
-    let e = words-length c.args.part.now in
-    sym ((each_decides (flagged c.args.flags.now) (words c.args.part.now)).1 (λ j l. c.loop-i.invariant j (omega arith)))
+    all_is _ _ (flagged c.args.flags.now) (λ x b q k. search rules) c.of.result c.all.new.self c.all.result c.all.ensures.ran
+    ∙ ap (each_of (flagged c.args.flags.now)) c.of.ensures

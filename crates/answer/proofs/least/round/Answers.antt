@@ -1,23 +1,39 @@
-use Rattle.std.proofs.Common.{◌≡◌, ℕ, ◌+◌, ◌<◌, Bool, true, false, List, length, sym, subst, arith, rules}
-use Rattle.book.specs.Program.{Program, rule_count}
+use Rattle.std.proofs.Common.{◌≡◌, ℕ, Bool, List, true, false, length, refl, subst, rules}
+use Rattle.std.proofs.lemmas.Bool.{both_ways}
+use Rattle.book.specs.Program.{ProgramRule, Program}
 use Rattle.book.specs.Reading.{program_of}
 use Rattle.answer.specs.Flags.{flagged}
-use Rattle.answer.specs.Rounds.{Went}
-use Rattle.answer.proofs.Rounds.{went_more}
+use Rattle.answer.specs.Rounds.{Added}
+use Rattle.answer.proofs.Rounds.{went_given, went_left}
+use Rattle.book.proofs.Handing.{handed}
 use Rattle.answer.proofs.least.round.Goals as goal
-use Rattle.answer.proofs.least.round.Goals.{then-add_head, else-add_head}
+use Rattle.answer.proofs.least.round.Goals.{then-used-k+then-add_head, else-used-k, else-used-k-via-then-used-k+else-add_head, else-used-k-via-else-used-k}
 
 pub loop-k-preserved : goal.loop-k-preserved
 loop-k-preserved c =
-    let p : Program = program_of c.args.book.now in
+    let b = c.args.book.now in
+    let p : Program = program_of b in
     let u : ℕ → Bool = flagged c.args.used.now in
     let k = c.loop-k.k in
-    let xs : List Bool = c.args.flags.now in
     let zs : List Bool = c.loop-k.flags in
-    let ys : List Bool = c.add_head.new.flags in
-    let l : k < rule_count p = omega (arith, c.rules-k-end.ensures, c.loop-k-test.true) in
-    let m : length zs ≡ 128 = search rules in
-    elim c.if-add_head.branch [
-      | then-add_head w ↦ subst (λ (s : Bool). Went p u (k + 1) xs s ys) (sym w.joined-is) (went_more p u k xs zs ys c.loop-k.joined true l m c.loop-k.invariant w.if-add_head.ensures)
-      | else-add_head w ↦ subst (λ (s : Bool). Went p u (k + 1) xs s ys) (sym w.joined-is) (went_more p u k xs zs ys c.loop-k.joined false l m c.loop-k.invariant w.if-add_head.ensures)
-    ]
+    let h = handed b c.loop-k.rule-iterator c.next.new.self k c.in-Some.rule c.loop-k.invariant.at c.in-Some.ensures.steps in
+    let m : length c.loop-k.flags ≡ 128 = search rules in
+    let w = c.loop-k.invariant.went in
+    record {
+      at = h.1;
+      went =
+          elim c.if-used-k.branch [
+            | then-used-k+then-add_head v ↦
+                rw (v.joined-is, v.flags-is)
+                (went_given p u k _ zs _ c.loop-k.joined h.0.within m w v.if-used-k.true (subst (λ (r : ProgramRule). Added r zs true v.add_head.new.flags) h.0.rule v.if-add_head.ensures))
+            | else-used-k v ↦
+                rw (v.joined-is, v.flags-is)
+                (elim v.else-used-k.branch [
+                  | else-used-k-via-then-used-k+else-add_head x ↦
+                      let d = subst (λ (r : ProgramRule). Added r zs false x.add_head.new.flags) h.0.rule x.if-add_head.ensures in
+                      rw x.flags-is (went_left p u k _ zs _ c.loop-k.joined w d.0 (λ _. d.1))
+                  | else-used-k-via-else-used-k x ↦
+                      rw x.flags-is (went_left p u k _ zs _ c.loop-k.joined w refl (λ e. absurd (both_ways _ x.if-used-k.false e)))
+                ])
+          ];
+    }

@@ -1,7 +1,7 @@
 use Rattle.std.proofs.Common.{◌≡◌, ℕ, length, None, sym, subst, arith}
 use Rattle.std.proofs.lemmas.Result.{err_from_is_err_and}
 use Rattle.answer.specs.Fault.{values_fault}
-use Rattle.answer.proofs.Values.{found_at, none_more, all_low}
+use Rattle.answer.proofs.Values.{found_at, all_low}
 use Rattle.answer.proofs.sheet.check_values.Goals as goal
 
 pub returns-in_err-check_value : goal.returns-in_err-check_value
@@ -10,9 +10,6 @@ returns-in_err-check_value c =
     let p = err_from_is_err_and c.from_residual.result c.from_residual.ensures.1 in
     let found = found_at c.args.most s c.loop-i.i (length s) _ c.loop-i-test.true c.loop-i.invariant c.in_err-check_value.ensures in
     record { declines = rw (p.1, p.2) found; small = rw p.1 tt }
-
-pub loop-i-preserved : goal.loop-i-preserved
-loop-i-preserved c = none_more c.args.most c.args.bytes.now c.loop-i.i c.loop-i.invariant c.in_ok-check_value.ensures
 
 pub returns : goal.returns
 returns c =

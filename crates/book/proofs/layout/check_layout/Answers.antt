@@ -1,12 +1,9 @@
+use Rattle.std.proofs.Common.{arith}
 use Rattle.book.proofs.Holding.{judged, different}
 use Rattle.book.proofs.layout.check_layout.Goals as goal
 
-pub returns : goal.returns
-returns c =
-    let l = c.check_layers in
-    record {
-      declines = l.ensures.declines;
-      counts = l.ensures.counts;
-      holds = judged l.result c.args.bytes.now c.see_bytes.ensures l.ensures.declines l.ensures.counts;
-      different = different;
-    }
+pub returns-clause-holds : goal.returns-clause-holds
+returns-clause-holds c = judged c.check_layers.result c.args.bytes.now (λ i. omega (arith, c.type_inv.bytes i)) c.check_layers.ensures.declines c.check_layers.ensures.bytes
+
+pub returns-clause-different : goal.returns-clause-different
+returns-clause-different c = different

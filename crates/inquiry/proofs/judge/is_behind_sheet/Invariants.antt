@@ -1,5 +1,5 @@
-use Rattle.std.proofs.Common.{◌≡◌, ℕ, ◌+◌, ◌<◌, get_or}
+use Rattle.std.proofs.Common.{◌≡◌, ℕ, ◌+◌, ◌<◌, length, get_or}
 use Rattle.inquiry.proofs.judge.is_behind_sheet.Given as goal
 
-abbrev pub invariant-loop-a : goal.invariant-loop-a
-invariant-loop-a l = (i : ℕ) → i < l.a → get_or l.page i 0 ≡ get_or l.sheet i 0 + 1
+abbrev pub invariant-loop-mark : goal.invariant-loop-mark
+invariant-loop-mark l = (i : ℕ) → i < length l.yielded → get_or l.marks i 0 ≡ get_or l.sheet i 0 + 1

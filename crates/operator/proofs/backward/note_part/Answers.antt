@@ -1,12 +1,14 @@
-use Rattle.std.proofs.Common.{false, get_or, arith, rules}
+use Rattle.std.proofs.Common.{◌≡◌, false, length, get_or, arith, rules}
 use Rattle.book.specs.Layout.{words}
-use Rattle.operator.proofs.Backwards.{part_more, part_all}
+use Rattle.book.specs.Handing.{atoms_left}
+use Rattle.book.proofs.Handing.{part_at}
+use Rattle.operator.proofs.Backwards.{midst_below, part_more}
 use Rattle.operator.proofs.backward.note_part.Goals as goal
 
-pub loop-i-preserved : goal.loop-i-preserved
-loop-i-preserved c =
-    part_more (λ j. get_or (words c.args.part.now) j 0) (λ a. get_or c.args.flags.now a false) c.loop-i.flags c.loop-i.i
-    c.atom_at.result c.atom_at.ensures (search rules) c.loop-i.invariant
-
-pub returns : goal.returns
-returns c a = part_all c.args.part.now c.args.set c.loop-i.i a _ _ (search rules) (omega arith) (c.loop-i.invariant a)
+pub loop-atom-preserved : goal.loop-atom-preserved
+loop-atom-preserved c a =
+    let w : atoms_left c.into_iter-atom-iterator.result ≡ words c.args.part.now = search rules in
+    let y = part_at (words c.args.part.now) c.into_iter-atom-iterator.result c.loop-atom.atom-iterator c.next.new.self c.loop-atom.yielded c.in-Some.atom w c.loop-atom.yielded_by c.in-Some.ensures.steps in
+    let l = midst_below 128 (words c.args.part.now) c.loop-atom.yielded c.in-Some.atom _ y c.requires in
+    let m : length c.loop-atom.flags ≡ 128 = search rules in
+    part_more c.loop-atom.yielded (get_or c.args.flags.now a false) c.loop-atom.flags c.in-Some.atom a (omega arith) (c.loop-atom.invariant a)

@@ -15,7 +15,3 @@ invariant_of-result c =
       literals = λ k i h. absurd (omega arith);
       ascending = λ k i h. absurd (omega arith);
     }
-
-pub returns : goal.returns
-unfolding decode
-returns c = refl

@@ -5,4 +5,7 @@ use Rattle.operator.proofs.Finish.{Written}
 use Rattle.operator.proofs.notes.Notes.finish.Given as goal
 
 abbrev pub invariant-loop-i : goal.invariant-loop-i
-invariant-loop-i l = Written (program_of l.book) l.page (tests l.self) l.fresh l.i × (length l.fresh ≡ 384)
+invariant-loop-i l = record {
+  written : Written (program_of l.book) l.mark-items (tests l.self) l.fresh l.i;
+  long : length l.fresh ≡ 384;
+}
