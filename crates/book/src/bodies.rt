@@ -36,7 +36,9 @@ impl Header<'_> {
         Ok(())
     }
 
-    // Layer 3: the first literal, rule by rule, that breaks a condition.
+    // Layer 3: the first literal, rule by rule, that breaks a condition. A function of its own in the machine code too:
+    // within its caller, the bounds of the loop over the literals were kept in memory, which took twice the time.
+    #[inline(never)]
     pub(crate) fn check_bodies(&self) -> Result<(), RuleFault>
         requires { entries_fault self.now.bytes.now self.now.rules ≡ None }
         ensures { result_err result ≡ bodies_fault self.now.bytes.now self.now.rules }

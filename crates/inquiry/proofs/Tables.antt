@@ -32,10 +32,10 @@ levels_put z t d l h = ap (λ x. level_of z x ∷ levels_of z (set t d l) d) (ge
 pub put_walk : (z : ℕ) (t : List Level) (d : ℕ) (l : Level) (p : List ℕ) (a v : ℕ) → d < length t → at (take z (set p a v)) (levels_of z (set t d l) (d + 1)) ≡ at (set (take z p) a v) (level_of z l ∷ levels_of z t d)
 put_walk z t d l p a v h = rw (add-one, levels_put z t d l h, take_set_any)
 
-retreat_in : (z : ℕ) (t : List Level) (d : ℕ) → (level_at t d).side ≡ In → retreat (levels_of z t (suc d)) ≡ retreat (levels_of z t d)
+pub retreat_in : (z : ℕ) (t : List Level) (d : ℕ) → (level_at t d).side ≡ In → retreat (levels_of z t (suc d)) ≡ retreat (levels_of z t d)
 retreat_in z t d e = ap (λ v. retreat (level (side_of v) (level_at t d).atom (take z (level_at t d).page) ∷ levels_of z t d)) e
 
-retreat_out : (z : ℕ) (t : List Level) (d : ℕ) → (level_at t d).side ≡ Out → retreat (levels_of z t (suc d)) ≡ at (set (take z (level_at t d).page) (level_at t d).atom 2) (level inn (level_at t d).atom (take z (level_at t d).page) ∷ levels_of z t d)
+pub retreat_out : (z : ℕ) (t : List Level) (d : ℕ) → (level_at t d).side ≡ Out → retreat (levels_of z t (suc d)) ≡ at (set (take z (level_at t d).page) (level_at t d).atom 2) (level inn (level_at t d).atom (take z (level_at t d).page) ∷ levels_of z t d)
 retreat_out z t d e = ap (λ v. retreat (level (side_of v) (level_at t d).atom (take z (level_at t d).page) ∷ levels_of z t d)) e
 
 -- the levels from d on all try in

@@ -15,7 +15,7 @@ use Rattle.operator.specs.declared.operator.Verdict.{Verdict}
 use Rattle.operator.specs.Page.{object_count, Page, Outcome, clash, marked, Meaning, Allowed, Lawful}
 use Rattle.operator.specs.Apply.{page_fault, Answers}
 
-no_fault : (b : Program) (p : List ℕ) → Page b p → page_fault b p ≡ None
+pub no_fault : (b : Program) (p : List ℕ) → Page b p → page_fault b p ≡ None
 no_fault b p G =
     rw (eq-eqb (length p) (object_count b) G.long)
     (first_all (λ i. value_fault 2 i (get_or p i 0)) (object_count b) (λ i l. grind (arith, nat_tests, G.marks i)))

@@ -35,10 +35,8 @@ impl PlainOperator for Forward {
 
     // An atom is out unless one of its rules has a body that is not.
     fn notes(page: &Marks) -> Notes {
-        let mut notes = Notes {
-            atom_out: [true; MAX_ATOMS],
-            ..Notes::none()
-        };
+        let mut notes = Notes::none();
+        notes.atom_out = [true; MAX_ATOMS];
         for (k, rule) in page.book.iter().enumerate() {
             note_rule(page, k, rule, &mut notes);
         }

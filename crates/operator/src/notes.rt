@@ -28,12 +28,13 @@ fn mark_of(mark: u8, gets_in: bool, gets_out: bool) -> Option<u8>
     requires { mark ≤ 2 }
     ensures { result ≡ code (mark == 2 || gets_in) (mark == 1 || gets_out) }
 {
-    match (mark == IN || gets_in, mark == OUT || gets_out) {
-        (true, true) => None,
-        (true, false) => Some(IN),
-        (false, true) => Some(OUT),
-        (false, false) => Some(0),
+    let is_in = mark == IN || gets_in;
+    let is_out = mark == OUT || gets_out;
+    if is_in && is_out {
+        return None;
     }
+    // One sum in place of a choice of four, since every object of the page comes here.
+    Some(u8::from(is_in) * IN + u8::from(is_out) * OUT)
 }
 
 impl Notes {

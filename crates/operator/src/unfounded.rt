@@ -19,6 +19,7 @@ use answer::flags::{AtomFlags, RuleFlags, all_flagged, rule_flags};
 use answer::least::least_atoms;
 use book::book::Book;
 use book::book::rules::Rule;
+use book::limits::{MAX_ATOMS, MAX_RULES};
 use book::refusal::Refusal;
 use std::array;
 
@@ -40,10 +41,12 @@ impl PlainOperator for Unfounded {
 
     fn notes(page: &Marks) -> Notes {
         let inside = least_atoms(page.book, &usable_rules(page));
+        // Each of the four, since `..Notes::none()` would make the two others as well and throw them away.
         Notes {
+            atom_in: [false; MAX_ATOMS],
             atom_out: outside_atoms(&inside),
+            body_in: [false; MAX_RULES],
             body_out: outside_bodies(page.book, &inside),
-            ..Notes::none()
         }
     }
 }

@@ -1,7 +1,7 @@
 // Operators and stacks, each applied once to a page.
 use crate::books::{book_named, book_of, test_books};
 use crate::fields;
-use crate::fields::{Field, prints_as};
+use crate::fields::{Field, all_sheets, prints_as};
 use crate::tally::Tally;
 use anyhow::{Context, bail};
 use book::book::Book;
@@ -21,7 +21,7 @@ pub(crate) fn pages(rt: &HostRuntime, registers: &str, vectors: &str) -> anyhow:
         let (asked, expected) = line.split_once(" = ").context("no answer")?;
         let (name, rest) = fields::split(asked);
         let (operator, page) = fields::split(rest);
-        let bytes = fields::bytes(rt.alloc(), book_named(registers, name)?)?;
+        let bytes = fields::bytes(rt.alloc(), book_named(registers, name))?;
         let book = book_of(bytes.as_slice())?;
         let mut page = fields::digits(rt.alloc(), page)?;
         let same = match apply_named(operator, &book, page.as_mut_slice())? {
@@ -44,7 +44,7 @@ fn apply_named(name: &str, book: &Book, page: &mut [u8]) -> anyhow::Result<Verdi
         "lookahead-basic" => Lookahead { below: Basic }.apply(book, page),
         _ => bail!("no such operator"),
     };
-    answer.context("a page is declined")
+    answer.ok().context("a page is declined")
 }
 
 // NAME BOOK COUNT SHEET ..: what the stack makes of the open page fits every sheet of the register, and the stack
@@ -73,8 +73,7 @@ fn stack_fits<O: Operator + Drop>(
 }
 
 fn all_fit(heap: Global, page: &[u8], register: &str) -> Result<bool, AllocError> {
-    let sheets = fields::sheets(heap, register)?;
-    Ok(sheets.iter().all(|sheet| fits(page, sheet.as_slice())))
+    all_sheets(heap, register, |sheet| fits(page, sheet.as_slice()))
 }
 
 // Whether each atom that the page marks, a byte each, is as in the sheet.

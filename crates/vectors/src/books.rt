@@ -6,18 +6,15 @@ use book::book::Book;
 
 // The book that bytes hold.
 pub(crate) fn book_of(bytes: &[u8]) -> anyhow::Result<Book<'_>> {
-    Book::try_from(bytes).context("a book is declined")
+    Book::try_from(bytes).ok().context("a book is declined")
 }
 
-// The book of a name among the lines, as the field that it is.
-pub(crate) fn book_named<'a>(set: &'a str, wanted: &str) -> anyhow::Result<&'a str> {
-    let (_, rest) = set
-        .lines()
+// The book of a name among the lines, as the field that it is; a dash, which is no book, where there is none.
+pub(crate) fn book_named<'a>(set: &'a str, wanted: &str) -> &'a str {
+    set.lines()
         .map(fields::split)
         .find(|(name, _)| *name == wanted)
-        .context("no book of that name")?;
-    let (book, _) = fields::split(rest);
-    Ok(book)
+        .map_or("-", |(_, rest)| fields::split(rest).0)
 }
 
 // Tests the bytes of each book against what is expected. A test answers nothing for a book that it leaves out.

@@ -3,7 +3,7 @@ ghost use Rattle.std.specs.Prelude.{◌≤◌};
 ghost use Rattle.book.specs.Reading.{program_of};
 
 use crate::books::test_books;
-use crate::fields::{Field, sheets};
+use crate::fields::{Field, all_sheets};
 use crate::tally::Tally;
 use answer::check::check;
 use answer::order::smaller;
@@ -67,12 +67,15 @@ fn advance(sheet: &mut [u8]) {
     }
 }
 
-// Whether each sheet of a register passes, and is smaller than the next.
+// Whether each sheet of a register passes, and is smaller than the next. Only two at a time are held.
 fn all_pass(heap: Global, book: &Book, register: &str) -> Result<bool, AllocError> {
-    let sheets = sheets(heap, register)?;
-    let pass = sheets.iter().all(|sheet| passes(book, sheet.as_slice()));
-    let ascend = sheets
-        .iter()
-        .is_sorted_by(|a, b| smaller(a.as_slice(), b.as_slice()));
-    Ok(pass && ascend)
+    let mut before: Option<Vec<u8>> = None;
+    all_sheets(heap, register, |sheet| {
+        let ascends = before
+            .as_ref()
+            .is_none_or(|before| smaller(before.as_slice(), sheet.as_slice()));
+        let same = ascends && passes(book, sheet.as_slice());
+        before = Some(sheet);
+        same
+    })
 }

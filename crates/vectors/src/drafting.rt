@@ -124,7 +124,7 @@ fn atoms(heap: Global, text: &str) -> anyhow::Result<Vec<usize>> {
         return Ok(Vec::new(heap));
     }
     text.split(',')
-        .map(|atom| atom.parse::<usize>().context("no atom"))
+        .map(|atom| Ok(atom.parse::<usize>()?))
         .try_collect(heap)
 }
 

@@ -1,8 +1,10 @@
 // The fields of a vector's line. A dash stands for none, of bytes as of digits.
-use hex::FromHexError;
+use anyhow::{Context, ensure};
 use std::alloc::{AllocError, Global};
 use std::fmt;
 use std::fmt::Display;
+
+const NO_HEXADECIMAL: &str = "a field is not in hexadecimal";
 
 // The first field of a line, and the rest of the line.
 pub(crate) fn split(line: &str) -> (&str, &str) {
@@ -13,9 +15,15 @@ fn none_for_dash(field: &str) -> &str {
     if field == "-" { "" } else { field }
 }
 
-// The bytes of a field in hexadecimal.
-pub(crate) fn bytes(heap: Global, field: &str) -> Result<Vec<u8>, FromHexError> {
-    hex::decode(heap, none_for_dash(field))
+// The bytes of a field in hexadecimal, whose letters are small. A digit without a second one is left out, as a dash is.
+pub(crate) fn bytes(heap: Global, field: &str) -> anyhow::Result<Vec<u8>> {
+    let digits = &field.as_bytes()[..field.len() / 2 * 2];
+    let mut found = vec![in heap; 0; digits.len() / 2]?;
+    hex::decode_to_slice(digits, found.as_mut_slice())
+        .ok()
+        .context(NO_HEXADECIMAL)?;
+    ensure!(!digits.iter().any(u8::is_ascii_uppercase), NO_HEXADECIMAL);
+    Ok(found)
 }
 
 // The digits of a sheet or a page, one a byte.
@@ -26,13 +34,21 @@ pub(crate) fn digits(heap: Global, field: &str) -> Result<Vec<u8>, AllocError> {
         .collect(heap)
 }
 
-// The sheets of a register, which is COUNT SHEET SHEET ..
-pub(crate) fn sheets(heap: Global, register: &str) -> Result<Vec<Vec<u8>>, AllocError> {
-    register
-        .split(' ')
-        .skip(1)
-        .map(|sheet| digits(heap, sheet))
-        .try_collect(heap)
+// Whether each sheet of a register, which is COUNT SHEET SHEET .., passes a test. One is held at a time, and the first
+// that does not pass is the last that is looked at.
+pub(crate) fn all_sheets<F: FnMut(Vec<u8>) -> bool>(
+    heap: Global,
+    register: &str,
+    mut test: F,
+) -> Result<bool, AllocError>
+    requires { F.IsAlwaysCallable test }
+{
+    for sheet in register.split(' ').skip(1) {
+        if !test(digits(heap, sheet)?) {
+            return Ok(false);
+        }
+    }
+    Ok(true)
 }
 
 // A sheet or a page as a field.

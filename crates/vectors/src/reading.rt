@@ -6,18 +6,16 @@ use book::book::Book;
 use book::faults::BookFault;
 use std::fmt;
 
-// What reading answers as a vector has it, a fault with its rule before its line.
+// A fault as a vector has it, with its rule before its line.
 #[derive(Clone, Copy)]
-struct Answer(Result<(), BookFault>);
+struct Fault(BookFault);
 
-impl fmt::Display for Answer {
+impl fmt::Display for Fault {
     fn fmt<W: fmt::Write>(&self, f: &mut fmt::Formatter<W>) -> fmt::Result {
-        match self.0 {
-            Ok(()) => f.write_str("accepted"),
-            Err(fault) => match fault.fault.rule {
-                Some(rule) => write!(f, "{rule} {fault}"),
-                None => write!(f, "- {fault}"),
-            },
+        let fault = self.0;
+        match fault.fault.rule {
+            Some(rule) => write!(f, "{rule} {fault}"),
+            None => write!(f, "- {fault}"),
         }
     }
 }
@@ -25,8 +23,10 @@ impl fmt::Display for Answer {
 // NAME BOOK RULE fault LAYER CAUSE BYTE
 pub(crate) fn declined(rt: &HostRuntime, vectors: &str) -> anyhow::Result<Tally> {
     test_bytes(rt, vectors, |bytes, expected| {
-        let answer = Answer(Book::empty().read(bytes));
-        Ok(Some(prints_as(rt.alloc(), answer, expected)?))
+        match Book::empty().read(bytes) {
+            Ok(()) => Ok(Some(false)),
+            Err(fault) => Ok(Some(prints_as(rt.alloc(), Fault(fault), expected)?)),
+        }
     })
 }
 

@@ -9,7 +9,7 @@ loop-k-init c =
     record {
       at = search rules;
       noted = record {
-        atom_in = λ a l. rw c.none.ensures (get_or-replicate 128 a false false (omega arith));
+        atom_in = λ a l. rw c.none-notes.ensures (get_or-replicate 128 a false false (omega arith));
         atom_out = λ a l. get_or-replicate 128 a true false (omega arith);
         body_in = λ r l. absurd (omega arith);
         body_out = λ r l. absurd (omega arith);

@@ -20,8 +20,8 @@ returns c =
     let same : (a : ℕ) → flagged fs a ≡ inside (least_set b (usable b p)) a =
     least_flagged b (usable b p) (flagged c.usable_rules.result) (flagged fs) v.proper c.usable_rules.ensures c.least_atoms-inside.ensures in
     record {
-      atom_in = λ a l. rw c.none.ensures (none_flagged 128 a);
+      atom_in = λ a l. none_flagged 128 a;
       atom_out = λ a l. c.outside_atoms.ensures a (omega arith) ∙ ap not (same a);
-      body_in = λ r l. rw c.none.ensures (none_flagged 256 r);
+      body_in = λ r l. none_flagged 256 r;
       body_out = λ r l. c.outside_bodies.ensures r l ∙ outside_some (flagged fs) (least_set b (usable b p)) same (nth_rule b r).positives;
     }
