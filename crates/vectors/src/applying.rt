@@ -21,7 +21,7 @@ pub(crate) fn pages(rt: &HostRuntime, registers: &str, vectors: &str) -> anyhow:
         let (asked, expected) = line.split_once(" = ").context("no answer")?;
         let (name, rest) = fields::split(asked);
         let (operator, page) = fields::split(rest);
-        let bytes = fields::bytes(rt.alloc(), book_named(registers, name))?;
+        let bytes = fields::bytes(rt.alloc(), book_named(registers, name)?)?;
         let book = book_of(bytes.as_slice())?;
         let mut page = fields::digits(rt.alloc(), page)?;
         let same = match apply_named(operator, &book, page.as_mut_slice())? {

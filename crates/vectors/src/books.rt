@@ -4,17 +4,22 @@ use crate::tally::Tally;
 use anyhow::Context;
 use book::book::Book;
 
+const DECLINED: &str = "a book is declined";
+
 // The book that bytes hold.
 pub(crate) fn book_of(bytes: &[u8]) -> anyhow::Result<Book<'_>> {
-    Book::try_from(bytes).ok().context("a book is declined")
+    Book::try_from(bytes).ok().context(DECLINED)
 }
 
-// The book of a name among the lines, as the field that it is; a dash, which is no book, where there is none.
-pub(crate) fn book_named<'a>(set: &'a str, wanted: &str) -> &'a str {
-    set.lines()
+// The book of a name among the lines, as the field that it is. None of that name is an error in the same words.
+pub(crate) fn book_named<'a>(set: &'a str, wanted: &str) -> anyhow::Result<&'a str> {
+    let (_, rest) = set
+        .lines()
         .map(fields::split)
         .find(|(name, _)| *name == wanted)
-        .map_or("-", |(_, rest)| fields::split(rest).0)
+        .context(DECLINED)?;
+    let (book, _) = fields::split(rest);
+    Ok(book)
 }
 
 // Tests the bytes of each book against what is expected. A test answers nothing for a book that it leaves out.

@@ -1,10 +1,8 @@
 // The fields of a vector's line. A dash stands for none, of bytes as of digits.
-use anyhow::{Context, ensure};
+use anyhow::ensure;
 use std::alloc::{AllocError, Global};
 use std::fmt;
 use std::fmt::Display;
-
-const NO_HEXADECIMAL: &str = "a field is not in hexadecimal";
 
 // The first field of a line, and the rest of the line.
 pub(crate) fn split(line: &str) -> (&str, &str) {
@@ -18,11 +16,14 @@ fn none_for_dash(field: &str) -> &str {
 // The bytes of a field in hexadecimal, whose letters are small. A digit without a second one is left out, as a dash is.
 pub(crate) fn bytes(heap: Global, field: &str) -> anyhow::Result<Vec<u8>> {
     let digits = &field.as_bytes()[..field.len() / 2 * 2];
+    ensure!(
+        digits
+            .iter()
+            .all(|digit| matches!(digit, b'0'..=b'9' | b'a'..=b'f')),
+        "a field is not in hexadecimal"
+    );
     let mut found = vec![in heap; 0; digits.len() / 2]?;
-    hex::decode_to_slice(digits, found.as_mut_slice())
-        .ok()
-        .context(NO_HEXADECIMAL)?;
-    ensure!(!digits.iter().any(u8::is_ascii_uppercase), NO_HEXADECIMAL);
+    hex::decode_to_slice(digits, found.as_mut_slice())?;
     Ok(found)
 }
 
