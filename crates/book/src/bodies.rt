@@ -36,8 +36,8 @@ impl Header<'_> {
         Ok(())
     }
 
-    // Layer 3: the first literal, rule by rule, that breaks a condition. A function of its own in the machine code too:
-    // within its caller, the bounds of the loop over the literals were kept in memory, which took twice the time.
+    // Layer 3: the first literal, rule by rule, that breaks a condition. Not inlined, so that the bounds of the loop over
+    // the literals are in registers: within `Book::read` they lay in memory.
     #[inline(never)]
     pub(crate) fn check_bodies(&self) -> Result<(), RuleFault>
         requires { entries_fault self.now.bytes.now self.now.rules ≡ None }

@@ -11,7 +11,7 @@ pub(crate) fn book_of(bytes: &[u8]) -> anyhow::Result<Book<'_>> {
     Book::try_from(bytes).ok().context(DECLINED)
 }
 
-// The book of a name among the lines, as the field that it is. None of that name is an error in the same words.
+// The book of a name among the lines, as the field that it is. A name without a line is an error in the same words.
 pub(crate) fn book_named<'a>(set: &'a str, wanted: &str) -> anyhow::Result<&'a str> {
     let (_, rest) = set
         .lines()

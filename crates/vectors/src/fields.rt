@@ -13,7 +13,8 @@ fn none_for_dash(field: &str) -> &str {
     if field == "-" { "" } else { field }
 }
 
-// The bytes of a field in hexadecimal, whose letters are small. A digit without a second one is left out, as a dash is.
+// The bytes of a field in hexadecimal, whose letters are small. A last character that is left over, as a dash is, stands
+// for none.
 pub(crate) fn bytes(heap: Global, field: &str) -> anyhow::Result<Vec<u8>> {
     let digits = &field.as_bytes()[..field.len() / 2 * 2];
     ensure!(
